@@ -54,3 +54,9 @@ impl From<std::alloc::AllocError> for Refusal {
         Refusal::Memory
     }
 }
+
+impl<T: Drop> From<std::alloc::AllocFailed<T>> for Refusal {
+    fn from(_failed: std::alloc::AllocFailed<T>) -> Self {
+        Refusal::Memory
+    }
+}

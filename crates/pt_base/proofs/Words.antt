@@ -8,7 +8,7 @@ use Rattle.pt_base.specs.Operators.{quotient_of}
 use Rattle.std.proofs.lemmas.Int.{ints, wrapping_mul-bits, int_wrap-mul_right, to_z-of_z}
 
 -- a number below 2^32 is its own rest
-wrap_pos : (n : ℕ) → n < 2 ^ 32 → int_wrap w32 (pos n) ≡ cast_signed w32 n
+pub wrap_pos : (n : ℕ) → n < 2 ^ 32 → int_wrap w32 (pos n) ≡ cast_signed w32 n
 unfolding int_wrap
 wrap_pos n h = let e : n % 4294967296 ≡ n = omega arith in ap (cast_signed w32) e
 

@@ -1,0 +1,2 @@
+pub mod CostRange
+pub mod Inverse

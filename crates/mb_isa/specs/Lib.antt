@@ -1,0 +1,5 @@
+pub mod Registers
+pub mod Codes
+pub mod Candidates
+pub mod Costs
+pub mod Classes

@@ -1,0 +1,57 @@
+-- What an image does that does what a program means: docs/language.md, "What a compiled program does".
+use Rattle.std.specs.Prelude.{◌≡◌, ℕ, ℤ, ◌≤◌, ◌^◌, FitsSigned, List, [], ◌∷◌, All, length, slice_get, Option, Some, None}
+use Rattle.std.specs.Int.{w32}
+use Rattle.mb_isa.specs.Costs.{IsCosts}
+use Rattle.mb_pfu.specs.declared.Slot.{Slot}
+use Rattle.mb_pfu.specs.declared.Slot.TheVariants.{Paused, Ended as SlotEnded}
+use Rattle.pt_image.specs.declared.image.Point.{Point}
+use Rattle.pt_image.specs.declared.image.Parts.{Parts}
+use Rattle.mb_core.specs.State.{State}
+use Rattle.mb_core.specs.Tick.{Outcome, Ends, Trapped}
+use Rattle.mb_core.specs.Run.{run}
+use Rattle.pc_small.specs.Program.{Program}
+use Rattle.pc_meaning.specs.Meaning.{Residual, Here, Seq, Standing, Unstarted, At, Ended, Moment, inputs_of, outputs_of, words_at, moments}
+
+-- the number of the `EOT` that has paused
+abbrev pub number_of : Residual → ℕ
+number_of (Here number) = number
+number_of (Seq first rest) = number_of first
+
+-- a listed pause is that of slot 0, which is paused there
+abbrev pub PausedAt : Option Point → List Slot → Type 0
+PausedAt None slots = ⊥
+PausedAt (Some point) slots = (point.slot ≡ 0) × (slots ≡ Paused point.at ∷ [])
+
+-- the slots stand where `main` stands: slot 0 is paused at the place that the list of pauses has for the
+-- `EOT`, by its number, or it has ended
+abbrev pub StandsIn : Parts → Standing → List Slot → Type 0
+StandsIn image Unstarted slots = ⊥
+StandsIn image (At residual) slots = PausedAt (slice_get image.pauses (number_of residual)) slots
+StandsIn image Ended slots = slots ≡ SlotEnded ∷ []
+
+-- a tick of the machine does what the meaning does: it ends, its outputs are the meaning's, and the slots
+-- stand where `main` stands
+abbrev pub TickMeans : Program → Parts → Moment → Outcome → Type 0
+TickMeans program image moment (Ends cycles outputs state) = (outputs ≡ words_at (outputs_of program) moment.store) × StandsIn image moment.standing state.slots
+TickMeans program image moment (Trapped kind at charged) = ⊥
+
+-- tick by tick, as many of one as of the other
+abbrev pub EachMeans : Program → Parts → List Moment → List Outcome → Type 0
+EachMeans program image [] [] = Unit {0}
+EachMeans program image (moment ∷ moments) (outcome ∷ outcomes) = TickMeans program image moment outcome × EachMeans program image moments outcomes
+EachMeans program image [] (outcome ∷ outcomes) = ⊥
+EachMeans program image (moment ∷ moments) [] = ⊥
+
+-- one word for each input
+abbrev pub IsRow : Program → List ℤ → Type 0
+IsRow program row = (length row ≡ length (inputs_of program)) × All (FitsSigned w32) row
+
+abbrev pub most_of_compiled : ℕ
+most_of_compiled = 1000000000000
+
+-- under every cost table, on every list of input rows, with every limit of at least 1,000,000,000,000 cycles:
+-- the image never traps, and each of its ticks does what the program means
+abbrev pub IsFaithful : Program → Parts → Type 0
+IsFaithful program image =
+    (costs : List ℕ) → IsCosts costs → (most : ℕ) → most_of_compiled ≤ most → (rows : List (List ℤ)) → All (IsRow program) rows
+    → EachMeans program image (moments program rows) (run image costs most rows)

@@ -1,0 +1,11 @@
+pub mod Splitting
+pub mod Starts
+pub mod SoFar
+pub mod Found
+pub mod SoundDeclarations
+pub mod SoundSteps
+pub mod Limits
+pub mod CompleteDeclarations
+pub mod CompleteSteps
+pub mod Whole
+pub mod Exact

@@ -1,0 +1,4 @@
+pub mod Program
+pub mod Words
+pub mod Spelling
+pub mod Reading

@@ -1,0 +1,36 @@
+-- The words of the command line, and the statuses: docs/commands.md.
+use Rattle.std.specs.Prelude.{◌≡◌, ℕ, Bool, true, false, ◌&&◌, not, if◌then◌else◌, List, [], ◌∷◌, ◌++◌, codes, Option, Some, None}
+use Rattle.std.specs.Str.{bytes_eq}
+use Rattle.pretc_top.specs.declared.statuses.Status.{Status}
+use Rattle.pretc_top.specs.declared.statuses.Status.TheVariants.{Done, Usage, ReadFault, WriteFault, WantOfMemory, StoreFault, NotBuilt, NoFile}
+
+-- a command with the names that it is given
+pub data Command : Type 0 where
+  Go : (program image : List ℕ) → Command
+
+-- the command that words are, if they are one; two equal names are no command
+abbrev pub command_of : List (List ℕ) → Option Command
+command_of (verb ∷ program ∷ image ∷ []) = if bytes_eq verb (codes "go") && not (bytes_eq program image) then Some (Go program image) else None
+command_of words = None
+
+-- the exit status
+abbrev pub number_of : Status → ℕ
+number_of Done = 0
+number_of Usage = 2
+number_of ReadFault = 3
+number_of WriteFault = 4
+number_of WantOfMemory = 5
+number_of StoreFault = 11
+number_of NotBuilt = 12
+number_of NoFile = 17
+
+-- the line that a status prints last; a report has its own, and a failed write prints none
+abbrev pub line_of : Status → List ℕ
+line_of Done = []
+line_of Usage = codes "usage\n"
+line_of ReadFault = codes "read fault\n"
+line_of WriteFault = []
+line_of WantOfMemory = codes "want of memory\n"
+line_of StoreFault = codes "store fault\n"
+line_of NotBuilt = codes "not built\n"
+line_of NoFile = codes "no file\n"

@@ -1,0 +1,6 @@
+pub mod Commands
+pub mod Told
+pub mod Reported
+pub mod Go
+pub mod Stages
+pub mod Readying

@@ -1,0 +1,45 @@
+ghost use Rattle.std.specs.Prelude.{◌≡◌, ◌≢◌, ◌≤◌, ◌⊎◌, ℕ, List, Some, None, MatchOption, map};
+ghost use Rattle.pretc_top.specs.Commands.{Go, command_of};
+ghost use Rattle.pretc_top.specs.Go.{Comes, outside, written_is};
+
+use crate::going::{finish, go};
+use crate::statuses::Status;
+use pt_base::Text;
+use pt_outside::{Shelf, Sink, Source};
+use std::alloc::Global;
+
+// The names that `go` is given, where the words are such a call.
+fn go_names(words: &[Text]) -> Option<(&Text, &Text)>
+    ensures { MatchOption result (command_of words.now ≡ None) (λ names. command_of words.now ≡ Some (Go names.0.now names.1.now)) }
+{
+    match words {
+        [verb, program, name] => {
+            if verb.bytes() == b"go".as_slice() && program.bytes() != name.bytes() {
+                Some((program, name))
+            } else {
+                None
+            }
+        }
+        _ => None,
+    }
+}
+
+/// Does what the words after the program's name say, and gives the exit status.
+pub fn pretc<H: Shelf, I: Source, O: Sink>(
+    alloc: Global,
+    words: &Vec<Text>,
+    shelf: &mut H,
+    input: &mut I,
+    out: &mut O,
+) -> u8
+    ensures comes { Comes words.now.items (outside (H.files shelf.old) (H.load_faults shelf.old) (H.store_faults shelf.old) (I.left input.old) (I.faults input.old)) (outside (H.files shelf.new) (H.load_faults shelf.new) (H.store_faults shelf.new) (I.left input.new) (I.faults input.new)) (written_is (O.written out.old) (O.faults out.old)) (written_is (O.written out.new) (O.faults out.new)) result }
+    ensures load_faults { H.load_faults shelf.old ≤ H.load_faults shelf.new }
+    ensures store_faults { H.store_faults shelf.old ≤ H.store_faults shelf.new }
+    ensures source_faults { I.faults input.old ≤ I.faults input.new }
+    ensures sink_faults { O.faults out.old ≤ O.faults out.new }
+{
+    match go_names(words) {
+        None => finish(Status::Usage, out),
+        Some((program, name)) => go(alloc, program, name, shelf, input, out),
+    }
+}

@@ -1,0 +1,149 @@
+ghost use Rattle.std.specs.Prelude.{◌≡◌, ◌≤◌, ℕ, List, [], All, None, IfOk, IfErr, length};
+ghost use Rattle.pretc_top.specs.Commands.{line_of, number_of};
+ghost use Rattle.pretc_top.specs.Go.{Answers, GoEnds, GoComes, outside, written_is, cycles_most};
+ghost use Rattle.pretc_top.specs.Readying.{IsReady};
+ghost use Rattle.pretc_top.specs.Reported.{told_by, NeverTraps};
+ghost use Rattle.pt_trace.specs.Report.{run_text};
+ghost use Rattle.mb_isa.specs.Costs.{unit};
+ghost use Rattle.mb_core.specs.Plain.{IsPlain};
+ghost use Rattle.mb_core.specs.Machine.{fresh};
+
+use crate::reporting::write_report;
+use crate::stages::{load_image, read_trace, store_image};
+use crate::statuses::Status;
+use mb_core::Machine;
+use mb_isa::unit_costs;
+use pt_base::{Many, Memory, Text};
+use pt_image::Image;
+use pt_outside::{Shelf, Sink, Source};
+use std::alloc::Global;
+
+// The cycles that a tick may take.
+const CYCLES_MOST: u64 = 1000000000000;
+
+// The end of a call, once its text is written.
+fn close<O: Sink>(status: Status, out: &mut O) -> u8
+    ensures answers { Answers status [] (written_is (O.written out.old) (O.faults out.old)) (written_is (O.written out.new) (O.faults out.new)) result }
+    ensures faults { O.faults out.old ≤ O.faults out.new }
+{
+    if out.flush().is_err() {
+        return 4;
+    }
+    status.number()
+}
+
+/// The end of a call that has nothing to print but the line of its status.
+pub fn finish<O: Sink>(status: Status, out: &mut O) -> u8
+    ensures answers { Answers status (line_of status) (written_is (O.written out.old) (O.faults out.old)) (written_is (O.written out.new) (O.faults out.new)) result }
+    ensures faults { O.faults out.old ≤ O.faults out.new }
+{
+    match out.push(status.line()) {
+        Ok(()) => close(status, out),
+        Err(_) => 4,
+    }
+}
+
+// A loaded machine with the rows of its ticks, and places for its outputs.
+#[derive(Drop)]
+struct Ready {
+    machine: Machine,
+    rows: Many<Many<i32>>,
+    outputs: Vec<i32>,
+}
+
+// So many zeros.
+fn zeros(alloc: Global, count: usize) -> Result<Vec<i32>, Memory>
+    ensures { IfOk result (λ zeros. length zeros.items ≡ count) }
+{
+    let mut zeros = Vec::new(alloc);
+    for _ in 0..count {
+        zeros.push(0)?;
+    }
+    Ok(zeros)
+}
+
+// What running the image takes from memory.
+fn load_machine(alloc: Global, image: &Image) -> Result<(Machine, Vec<i32>), Memory>
+    requires { IsPlain image.now }
+    ensures machine { IfOk result (λ loaded. loaded.0 ≡ fresh image.now unit) }
+    ensures outputs { IfOk result (λ loaded. length loaded.1.items ≡ length image.now.outputs) }
+{
+    let machine = Machine::load(alloc, image, &unit_costs())?;
+    let outputs = zeros(alloc, image.outputs().len())?;
+    Ok((machine, outputs))
+}
+
+// All of `go` before its report: the image is built and stored, the trace read and the machine loaded.
+fn prepare<H: Shelf, I: Source>(
+    alloc: Global,
+    program: &Text,
+    name: &Text,
+    shelf: &mut H,
+    input: &mut I,
+) -> Result<Ready, Status>
+    ensures ready { IfOk result (λ ready. IsReady program.now name.now (outside (H.files shelf.old) (H.load_faults shelf.old) (H.store_faults shelf.old) (I.left input.old) (I.faults input.old)) (outside (H.files shelf.new) (H.load_faults shelf.new) (H.store_faults shelf.new) (I.left input.new) (I.faults input.new)) ready.machine ready.rows ready.outputs.items) }
+    ensures failed { IfErr result (λ status. GoEnds status program.now name.now (outside (H.files shelf.old) (H.load_faults shelf.old) (H.store_faults shelf.old) (I.left input.old) (I.faults input.old)) (outside (H.files shelf.new) (H.load_faults shelf.new) (H.store_faults shelf.new) (I.left input.new) (I.faults input.new)) (line_of status)) }
+    ensures load_faults { H.load_faults shelf.old ≤ H.load_faults shelf.new }
+    ensures store_faults { H.store_faults shelf.old ≤ H.store_faults shelf.new }
+    ensures source_faults { I.faults input.old ≤ I.faults input.new }
+{
+    let image = load_image(alloc, program, shelf)?;
+    store_image(alloc, name, &image, shelf)?;
+    let rows = match read_trace(alloc, image.inputs().len() as u32, input) {
+        Ok(rows) => rows,
+        Err(status) => return Err(status),
+    };
+    match load_machine(alloc, &image) {
+        Ok((machine, outputs)) => Ok(Ready {
+            machine,
+            rows,
+            outputs,
+        }),
+        Err(_) => Err(Status::WantOfMemory),
+    }
+}
+
+// The report of a ready machine, and the end of the call.
+fn report<O: Sink>(ready: Ready, out: &mut O) -> u8
+    requires going { ready.machine.trap ≡ None }
+    requires inputs { All (λ row. length row ≡ length ready.machine.image.inputs) ready.rows }
+    requires outputs { length ready.outputs.items ≡ length ready.machine.image.outputs }
+    requires few { length ready.machine.image.outputs ≤ 64 }
+    requires ends { NeverTraps ready.machine cycles_most ready.rows }
+    ensures answers { Answers Status.Done (run_text (told_by ready.machine cycles_most ready.rows)) (written_is (O.written out.old) (O.faults out.old)) (written_is (O.written out.new) (O.faults out.new)) result }
+    ensures faults { O.faults out.old ≤ O.faults out.new }
+{
+    let mut machine = ready.machine;
+    let mut outputs = ready.outputs;
+    match write_report(
+        &mut machine,
+        ready.rows.items(),
+        &mut outputs,
+        CYCLES_MOST,
+        out,
+    ) {
+        Ok(()) => close(Status::Done, out),
+        Err(_) => 4,
+    }
+}
+
+/// `pretc go`.
+pub fn go<H: Shelf, I: Source, O: Sink>(
+    alloc: Global,
+    program: &Text,
+    name: &Text,
+    shelf: &mut H,
+    input: &mut I,
+    out: &mut O,
+) -> u8
+    ensures comes { GoComes program.now name.now (outside (H.files shelf.old) (H.load_faults shelf.old) (H.store_faults shelf.old) (I.left input.old) (I.faults input.old)) (outside (H.files shelf.new) (H.load_faults shelf.new) (H.store_faults shelf.new) (I.left input.new) (I.faults input.new)) (written_is (O.written out.old) (O.faults out.old)) (written_is (O.written out.new) (O.faults out.new)) result }
+    ensures load_faults { H.load_faults shelf.old ≤ H.load_faults shelf.new }
+    ensures store_faults { H.store_faults shelf.old ≤ H.store_faults shelf.new }
+    ensures source_faults { I.faults input.old ≤ I.faults input.new }
+    ensures sink_faults { O.faults out.old ≤ O.faults out.new }
+{
+    match prepare(alloc, program, name, shelf, input) {
+        Ok(ready) => report(ready, out),
+        Err(status) => finish(status, out),
+    }
+}

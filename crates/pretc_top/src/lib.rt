@@ -1,0 +1,11 @@
+//! The top call of `pretc`.
+#![tactic(auto)]
+
+mod calling;
+mod going;
+mod reporting;
+mod stages;
+mod statuses;
+
+pub use calling::pretc;
+pub use statuses::Status;

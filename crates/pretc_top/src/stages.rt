@@ -1,0 +1,91 @@
+ghost use Rattle.std.specs.Prelude.{◌≡◌, ◌≤◌, ℕ, List, All, IfOk, IfErr, OnOk, length};
+ghost use Rattle.pt_outside.specs.Files.{KeepsFiles, Stores};
+ghost use Rattle.pt_image.specs.Text.{text_of};
+ghost use Rattle.pretc_top.specs.Go.{IsBuilt, IsRead};
+ghost use Rattle.pretc_top.specs.Stages.{LoadFails, StoreFails, TraceFails};
+
+use crate::statuses::Status;
+use pc_compile::compile;
+use pt_base::{Many, Text};
+use pt_image::Image;
+use pt_outside::{Shelf, ShelfFault, Source, StoreFault};
+use pt_trace::{Ending, pull_all, read_rows};
+use std::alloc::Global;
+
+// One byte more than a source may have.
+const SOURCE_MOST: u64 = 1048577;
+
+// The bytes that a trace may have.
+const TRACE_MOST: usize = 1048576;
+
+/// Loads a program and compiles it.
+pub fn load_image<H: Shelf>(alloc: Global, program: &Text, shelf: &mut H) -> Result<Image, Status>
+    ensures built { IfOk result (λ image. IsBuilt program.now image (H.files shelf.old)) }
+    ensures failed { IfErr result (λ status. LoadFails status program.now (H.files shelf.old) (H.load_faults shelf.old) (H.load_faults shelf.new)) }
+    ensures files { KeepsFiles (H.files shelf.old) (H.files shelf.new) }
+    ensures load_faults { H.load_faults shelf.old ≤ H.load_faults shelf.new }
+    ensures store_faults { H.store_faults shelf.old ≤ H.store_faults shelf.new }
+{
+    let text = match shelf.load(alloc, program, SOURCE_MOST) {
+        Ok(text) => text,
+        Err(ShelfFault::Absent) => return Err(Status::NoFile),
+        Err(ShelfFault::Failed) => return Err(Status::ReadFault),
+        Err(ShelfFault::Memory) => return Err(Status::WantOfMemory),
+    };
+    match compile(alloc, &text) {
+        Ok(Some(image)) => Ok(image),
+        Ok(None) => Err(Status::NotBuilt),
+        Err(_) => Err(Status::WantOfMemory),
+    }
+}
+
+/// Stores the text of an image.
+pub fn store_image<H: Shelf>(
+    alloc: Global,
+    name: &Text,
+    image: &Image,
+    shelf: &mut H,
+) -> Result<(), Status>
+    ensures stored { OnOk result (Stores (H.files shelf.old) (H.files shelf.new) name.now (text_of image.now)) }
+    ensures failed { IfErr result (λ status. StoreFails status name.now (text_of image.now) (H.files shelf.old) (H.files shelf.new) (H.store_faults shelf.old) (H.store_faults shelf.new)) }
+    ensures load_faults { H.load_faults shelf.old ≤ H.load_faults shelf.new }
+    ensures store_faults { H.store_faults shelf.old ≤ H.store_faults shelf.new }
+{
+    let text = match image.write(alloc) {
+        Ok(text) => text,
+        Err(_) => return Err(Status::WantOfMemory),
+    };
+    match shelf.store(alloc, name, &text) {
+        Ok(()) => Ok(()),
+        Err(StoreFault::Failed) => Err(Status::StoreFault),
+        Err(StoreFault::Memory) => Err(Status::WantOfMemory),
+    }
+}
+
+/// Reads the whole trace.
+pub fn read_trace<I: Source>(
+    alloc: Global,
+    width: u32,
+    input: &mut I,
+) -> Result<Many<Many<i32>>, Status>
+    ensures read { IfOk result (λ rows. IsRead width rows (I.left input.old) (I.left input.new)) }
+    ensures failed { IfErr result (λ status. TraceFails status width (I.left input.old) (I.left input.new) (I.faults input.old) (I.faults input.new)) }
+    ensures faults { I.faults input.old ≤ I.faults input.new }
+{
+    let pulled = match pull_all(alloc, input, TRACE_MOST) {
+        Ok(pulled) => pulled,
+        Err(_) => return Err(Status::WantOfMemory),
+    };
+    match pulled.ending {
+        Ending::End => {}
+        Ending::TooLong => return Err(Status::NotBuilt),
+        Ending::ReadFault => return Err(Status::ReadFault),
+    }
+    match read_rows(alloc, &pulled.text, width) {
+        Ok(read) => match read.bad {
+            None => Ok(read.rows),
+            Some(_) => Err(Status::NotBuilt),
+        },
+        Err(_) => Err(Status::WantOfMemory),
+    }
+}

@@ -1,0 +1,49 @@
+ghost use Rattle.std.specs.Prelude.{◌≡◌};
+ghost use Rattle.pretc_top.specs.Commands.{number_of, line_of};
+
+/// How a call of `pretc` came out.
+#[derive(Clone, Copy)]
+pub enum Status {
+    Done,
+    Usage,
+    ReadFault,
+    WriteFault,
+    WantOfMemory,
+    StoreFault,
+    NotBuilt,
+    NoFile,
+}
+
+impl Status {
+    /// The exit status.
+    pub fn number(self) -> u8
+        ensures { result ≡ number_of self }
+    {
+        match self {
+            Status::Done => 0,
+            Status::Usage => 2,
+            Status::ReadFault => 3,
+            Status::WriteFault => 4,
+            Status::WantOfMemory => 5,
+            Status::StoreFault => 11,
+            Status::NotBuilt => 12,
+            Status::NoFile => 17,
+        }
+    }
+
+    /// The line that is printed last, with its line feed.
+    pub fn line(self) -> &'static [u8]
+        ensures { result.now ≡ line_of self }
+    {
+        match self {
+            Status::Done => b"",
+            Status::Usage => b"usage\n",
+            Status::ReadFault => b"read fault\n",
+            Status::WriteFault => b"",
+            Status::WantOfMemory => b"want of memory\n",
+            Status::StoreFault => b"store fault\n",
+            Status::NotBuilt => b"not built\n",
+            Status::NoFile => b"no file\n",
+        }
+    }
+}

@@ -1,0 +1,1 @@
+-- Nothing is defined here: the clauses cite the definitions of pt_outside.

@@ -1,0 +1,13 @@
+use Rattle.std.proofs.lemmas.Result.{err_from_is_err_and}
+use Rattle.pt_lines.proofs.Loop.{goes_on, ends_as}
+use Rattle.pt_image.specs.Reading.{point_at}
+use Rattle.pt_image.proofs.points.point_lines.Goals as goal
+
+pub returns-in_err-value : goal.returns-in_err-value
+returns-in_err-value c =
+    let p = err_from_is_err_and c.from_residual.result c.from_residual.ensures.1 in
+    rw (p.1, p.2) (ends_as (point_at c.args.code c.args.slots c.args.aborts) c.loop.values.items c.args.count c.loop.counter c.loop.rest.now c.in_err-value.field-0.0 _ c.loop-test.true c.in_err-value.ensures c.loop.invariant)
+
+pub loop-preserved : goal.loop-preserved
+loop-preserved c =
+    rw c.in_ok-push.ensures.items (goes_on (point_at c.args.code c.args.slots c.args.aborts) c.loop.values.items c.args.count c.loop.counter c.loop.rest.now c.in_ok-value.value c.in_ok-value.after.now _ c.loop-test.true c.in_ok-value.ensures c.loop.invariant)

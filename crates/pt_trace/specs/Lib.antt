@@ -1,0 +1,5 @@
+pub mod Pulled
+pub mod Report
+pub mod Rows
+pub mod Scan
+pub mod Trace

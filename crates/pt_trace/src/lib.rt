@@ -1,0 +1,17 @@
+//! The trace that a program runs on and the report that it gives.
+//!
+//! `pull_all` takes a whole input from a source, `read_rows` reads a trace held in memory, exactly by
+//! `docs/files.md`, "The trace", and the calls on a `LineBuffer` write the lines of a report, exactly by
+//! `docs/commands.md`, "The report", without taking memory.
+#![tactic(auto)]
+
+mod line;
+mod pull;
+mod report;
+mod rows;
+#[cfg(test)]
+mod tests;
+
+pub use pull::{Ending, Pulled, pull_all};
+pub use report::{LineBuffer, bound_line, report_line, ticks_line, worst_line};
+pub use rows::{BadLine, Rows, read_rows};

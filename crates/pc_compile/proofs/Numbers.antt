@@ -25,7 +25,7 @@ low_large m h k =
 pub unsigned_low : (m : ℕ) → m < 65536 → cast_unsigned w16 (cast_signed w16 m) ≡ m
 unsigned_low m h = of_z-to_z w16 m h
 
-far_enough : (n : ℕ) → 32768 ≤ n → is_wide n ≡ false → 4294934592 ≤ n
+far_enough : (n : ℕ) → 32768 ≤ n → is_wide n ≡ false → 4294934528 ≤ n
 far_enough n h w = grind arith
 
 -- a number that needs no upper half

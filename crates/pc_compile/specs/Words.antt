@@ -21,7 +21,7 @@ byte_of cell = pos (4 * cell)
 
 -- the word of the number isn't the sign extension of its lower half
 abbrev pub is_wide : ℕ → Bool
-is_wide number = if nat_lt number 32768 then false else nat_lt number 4294934592
+is_wide number = if nat_lt number 32768 then false else nat_lt number 4294934528
 
 -- a constant into a register
 abbrev pub constant_words : Reg → ℕ → List Instr

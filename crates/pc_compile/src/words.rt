@@ -27,7 +27,7 @@ fn is_wide(number: u32) -> bool
     if number < 32768 {
         false
     } else {
-        number < 4294934592
+        number < 4294934528
     }
 }
 

@@ -1,0 +1,11 @@
+//! The top call over objects in memory: its reports, its statuses, and each load, store, pull, push and flush
+//! that fails in turn. Beside it, the slow meaning of programs and the ticks of the machine, row by row.
+#![tactic(auto)]
+
+mod calls;
+#[cfg(test)]
+mod tests;
+mod ticks;
+
+pub use calls::{Called, Outside, call};
+pub use ticks::both_ways;

@@ -1,5 +1,5 @@
 use crate::{Called, Outside, both_ways, call};
-use pt_base::Memory;
+use pt_base::{BinOp, Memory, UnOp, binary, unary};
 use std::alloc::Global;
 use std::test::Fail;
 
@@ -232,4 +232,36 @@ fn the_machine_does_what_the_program_means(rt: HostRuntime) -> Result<(), Fail> 
         assert_eq!(rt; outputs.as_slice(), wanted);
     }
     Ok(())
+}
+
+#[test]
+fn operators_give_their_values(rt: HostRuntime) {
+    let least = i32::MIN;
+    for (op, a, b, value) in [
+        (BinOp::Div, 7, 0, 0),
+        (BinOp::Rem, 7, 0, 7),
+        (BinOp::Div, least, -1, least),
+        (BinOp::Rem, least, -1, 0),
+        (BinOp::Div, -7, 2, -3),
+        (BinOp::Rem, -7, 2, -1),
+        (BinOp::ShiftLeft, 1, 33, 2),
+        (BinOp::ShiftLeft, 1, -1, least),
+        (BinOp::ShiftRight, -8, 1, -4),
+        (BinOp::ShiftRight, -8, 32, -8),
+        (BinOp::Mul, 65536, 65536, 0),
+        (BinOp::Sub, least, 1, 2147483647),
+        (BinOp::And, 2, 4, 1),
+        (BinOp::Or, 0, 0, 0),
+        (BinOp::BitAnd, 6, 3, 2),
+        (BinOp::BitOr, 6, 3, 7),
+        (BinOp::BitXor, 6, 3, 5),
+        (BinOp::Less, least, 0, 1),
+        (BinOp::GreaterEqual, 3, 3, 1),
+        (BinOp::NotEqual, 3, 3, 0),
+    ] {
+        assert!(rt; binary(op, a, b) == value);
+    }
+    assert!(rt;
+        unary(UnOp::Neg, least) == least && unary(UnOp::Not, 5) == 0 && unary(UnOp::Flip, 0) == -1
+    );
 }

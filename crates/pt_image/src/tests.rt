@@ -1,5 +1,6 @@
 use super::*;
 use pt_base::Text;
+use pt_lines::put_number_then;
 use std::alloc::Global;
 use std::test::*;
 
@@ -175,6 +176,35 @@ fn the_largest_counts(rt: HostRuntime) -> Result<(), Fail> {
     for (number, name, count, line, want) in cases {
         let found = fault_repeated(rt.alloc(), number, name, count, line).ok_or("memory")?;
         assert_eq!(rt; found, want, "at {number}");
+    }
+    Ok(())
+}
+
+// The text of an image with a pause at each of 65,536 places, the last of them at this one.
+fn paused_everywhere(alloc: Global, last: u64) -> Option<Vec<u8>> {
+    let mut bytes = Vec::new(alloc);
+    bytes.extend_from_slice(b"ARPRET 1\ncode 65536\n").ok()?;
+    for _ in 0..65_536u64 {
+        bytes.extend_from_slice(b"fc200000\n").ok()?;
+    }
+    bytes
+        .extend_from_slice(b"memory 0\ninputs 0\noutputs 0\nslots 1\n0\naborts 0\npauses 65536\n")
+        .ok()?;
+    for at in 0..65_535u64 {
+        put_number_then(&mut bytes, at, b' ').ok()?;
+        bytes.extend_from_slice(b"0 0\n").ok()?;
+    }
+    put_number_then(&mut bytes, last, b' ').ok()?;
+    bytes.extend_from_slice(b"0 0\nforks 0\n").ok()?;
+    Some(bytes)
+}
+
+#[test]
+fn a_pause_at_every_place(rt: HostRuntime) -> Result<(), Fail> {
+    for (last, want) in [(65_535, 0), (65_534, 8), (0, 8), (65_536, 8)] {
+        let bytes = paused_everywhere(rt.alloc(), last).ok_or("memory")?;
+        let found = fault_of(rt.alloc(), &bytes).ok_or("memory")?;
+        assert_eq!(rt; found, want, "at {last}");
     }
     Ok(())
 }

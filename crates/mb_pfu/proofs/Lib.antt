@@ -1,0 +1,17 @@
+pub mod Cases
+pub mod Frees
+pub mod Keeps
+pub mod Groups
+pub mod Climbs
+pub mod Reliefs
+pub mod Moves
+pub mod Ways
+pub mod Trees
+pub mod Sound
+pub mod Refill
+pub mod Dues
+pub mod Firsts
+pub mod Laws
+pub mod Places
+pub mod DueLists
+pub mod DueCuts

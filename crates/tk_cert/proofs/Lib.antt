@@ -1,0 +1,6 @@
+pub mod CertGroups
+pub mod CertLaws
+pub mod ListLaws
+pub mod PartLaws
+pub mod Putting
+pub mod WholeLaws

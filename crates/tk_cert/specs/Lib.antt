@@ -1,0 +1,5 @@
+pub mod Shapes
+pub mod Text
+pub mod Reading
+pub mod Whole
+pub mod Form

@@ -5,3 +5,4 @@ pub mod Preparing
 pub mod RowsFit
 pub mod Meant
 pub mod Readied
+pub mod Causing

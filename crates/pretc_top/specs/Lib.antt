@@ -4,3 +4,4 @@ pub mod Reported
 pub mod Go
 pub mod Stages
 pub mod Readying
+pub mod Causes

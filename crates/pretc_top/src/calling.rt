@@ -1,6 +1,8 @@
 ghost use Rattle.std.specs.Prelude.{◌≡◌, ◌≢◌, ◌≤◌, ◌⊎◌, ℕ, List, Some, None, MatchOption, map};
 ghost use Rattle.pretc_top.specs.Commands.{Go, command_of};
+ghost use Rattle.pt_outside.specs.Counts.{Rose};
 ghost use Rattle.pretc_top.specs.Go.{Comes, outside, written_is};
+ghost use Rattle.pretc_top.specs.Causes.{LacksProgram};
 
 use crate::going::{finish, go};
 use crate::statuses::Status;
@@ -24,8 +26,8 @@ fn go_names(words: &[Text]) -> Option<(&Text, &Text)>
     }
 }
 
-/// Does what the words after the program's name say, and gives the exit status.
-pub fn pretc<H: Shelf, I: Source, O: Sink>(
+// Does what the words say.
+fn called<H: Shelf, I: Source, O: Sink>(
     alloc: Global,
     words: &Vec<Text>,
     shelf: &mut H,
@@ -42,4 +44,26 @@ pub fn pretc<H: Shelf, I: Source, O: Sink>(
         None => finish(Status::Usage, out),
         Some((program, name)) => go(alloc, program, name, shelf, input, out),
     }
+}
+
+/// Does what the words after the program's name say, and gives the exit status.
+///
+/// `docs/commands.md` has the commands, the lines that each status prints, and what stands after it.
+/// What comes of a call is the clause `comes`; the others read off its causes by the status.
+pub fn pretc<H: Shelf, I: Source, O: Sink>(
+    alloc: Global,
+    words: &Vec<Text>,
+    shelf: &mut H,
+    input: &mut I,
+    out: &mut O,
+) -> u8
+    ensures comes { Comes words.now.items (outside (H.files shelf.old) (H.load_faults shelf.old) (H.store_faults shelf.old) (I.left input.old) (I.faults input.old)) (outside (H.files shelf.new) (H.load_faults shelf.new) (H.store_faults shelf.new) (I.left input.new) (I.faults input.new)) (written_is (O.written out.old) (O.faults out.old)) (written_is (O.written out.new) (O.faults out.new)) result }
+    ensures usage { result ≡ 2 → command_of words.now.items ≡ None }
+    ensures usage_comes { command_of words.now.items ≡ None → (result ≡ 2) ⊎ (result ≡ 4) }
+    ensures no_file { result ≡ 17 → LacksProgram (command_of words.now.items) (outside (H.files shelf.old) (H.load_faults shelf.old) (H.store_faults shelf.old) (I.left input.old) (I.faults input.old)) }
+    ensures read_fault { result ≡ 3 → Rose (H.load_faults shelf.old) (H.load_faults shelf.new) ⊎ Rose (I.faults input.old) (I.faults input.new) }
+    ensures write_fault { result ≡ 4 → Rose (O.faults out.old) (O.faults out.new) }
+    ensures store_fault { result ≡ 11 → Rose (H.store_faults shelf.old) (H.store_faults shelf.new) }
+{
+    called(alloc, words, shelf, input, out)
 }

@@ -1,0 +1,108 @@
+-- What a status tells of its cause.
+use Rattle.std.proofs.Common.{◌≡◌, ◌⊎◌, inl, inr, ◌≤◌, ℕ, List, Option, Some, None, refl, sym, ap, subst, ◌∙◌, ⊎_elim, arith}
+use Rattle.pt_outside.specs.Counts.{Rose}
+use Rattle.pt_outside.specs.Files.{Files, Lacks, Holds}
+use Rattle.pretc_top.specs.declared.statuses.Status.{Status}
+use Rattle.pretc_top.specs.declared.statuses.Status.TheVariants.{Done, Usage, ReadFault, WriteFault, WantOfMemory, StoreFault, NotBuilt, NoFile}
+use Rattle.pretc_top.specs.Commands.{Command, Go, command_of, number_of}
+use Rattle.pretc_top.specs.Go.{Outside, Written, CommandEnds, GoEnds, UsageEnds, Answers, whole, failed, Comes, IsFailedLoad, IsFailedPull}
+use Rattle.pretc_top.specs.Causes.{LacksProgram, OfCommand}
+
+read_ends : (command : Option Command) (status : Status) (old new : Outside) (due : List ℕ) → number_of status ≡ 3 → CommandEnds command status old new due
+    → Rose old.load_faults new.load_faults ⊎ Rose old.source_faults new.source_faults
+read_ends command Done old new due e h = absurd (omega arith)
+read_ends command Usage old new due e h = absurd (omega arith)
+read_ends None ReadFault old new due e h = absurd h
+read_ends (Some (Go program name)) ReadFault old new due e h = ⊎_elim (λ l. inl l.cause) (λ p. inr p.cause) h.1
+read_ends command WriteFault old new due e h = absurd (omega arith)
+read_ends command WantOfMemory old new due e h = absurd (omega arith)
+read_ends command StoreFault old new due e h = absurd (omega arith)
+read_ends command NotBuilt old new due e h = absurd (omega arith)
+read_ends command NoFile old new due e h = absurd (omega arith)
+
+store_ends : (command : Option Command) (status : Status) (old new : Outside) (due : List ℕ) → number_of status ≡ 11 → CommandEnds command status old new due
+    → Rose old.store_faults new.store_faults
+store_ends command Done old new due e h = absurd (omega arith)
+store_ends command Usage old new due e h = absurd (omega arith)
+store_ends command ReadFault old new due e h = absurd (omega arith)
+store_ends command WriteFault old new due e h = absurd (omega arith)
+store_ends command WantOfMemory old new due e h = absurd (omega arith)
+store_ends None StoreFault old new due e h = absurd h
+store_ends (Some (Go program name)) StoreFault old new due e h = h.1.cause
+store_ends command NotBuilt old new due e h = absurd (omega arith)
+store_ends command NoFile old new due e h = absurd (omega arith)
+
+write_ends : (command : Option Command) (status : Status) (old new : Outside) (due : List ℕ) → number_of status ≡ 4 → CommandEnds command status old new due → ⊥
+write_ends command Done old new due e h = absurd (omega arith)
+write_ends command Usage old new due e h = absurd (omega arith)
+write_ends command ReadFault old new due e h = absurd (omega arith)
+write_ends None WriteFault old new due e h = h
+write_ends (Some (Go program name)) WriteFault old new due e h = h
+write_ends command WantOfMemory old new due e h = absurd (omega arith)
+write_ends command StoreFault old new due e h = absurd (omega arith)
+write_ends command NotBuilt old new due e h = absurd (omega arith)
+write_ends command NoFile old new due e h = absurd (omega arith)
+
+no_file_ends : (command : Option Command) (status : Status) (old new : Outside) (due : List ℕ) → number_of status ≡ 17 → CommandEnds command status old new due → LacksProgram command old
+no_file_ends command Done old new due e h = absurd (omega arith)
+no_file_ends command Usage old new due e h = absurd (omega arith)
+no_file_ends command ReadFault old new due e h = absurd (omega arith)
+no_file_ends command WriteFault old new due e h = absurd (omega arith)
+no_file_ends command WantOfMemory old new due e h = absurd (omega arith)
+no_file_ends command StoreFault old new due e h = absurd (omega arith)
+no_file_ends command NotBuilt old new due e h = absurd (omega arith)
+no_file_ends None NoFile old new due e h = absurd h
+no_file_ends (Some (Go program name)) NoFile old new due e h = h.1
+
+usage_ends : (command : Option Command) (status : Status) (old new : Outside) (due : List ℕ) → number_of status ≡ 2 → CommandEnds command status old new due → command ≡ None
+usage_ends command Done old new due e h = absurd (omega arith)
+usage_ends None Usage old new due e h = refl
+usage_ends (Some (Go program name)) Usage old new due e h = absurd h
+usage_ends command ReadFault old new due e h = absurd (omega arith)
+usage_ends command WriteFault old new due e h = absurd (omega arith)
+usage_ends command WantOfMemory old new due e h = absurd (omega arith)
+usage_ends command StoreFault old new due e h = absurd (omega arith)
+usage_ends command NotBuilt old new due e h = absurd (omega arith)
+usage_ends command NoFile old new due e h = absurd (omega arith)
+
+none_ends : (status : Status) (old new : Outside) (due : List ℕ) → UsageEnds status old new due → number_of status ≡ 2
+none_ends Done old new due h = absurd h
+none_ends Usage old new due h = refl
+none_ends ReadFault old new due h = absurd h
+none_ends WriteFault old new due h = absurd h
+none_ends WantOfMemory old new due h = absurd h
+none_ends StoreFault old new due h = absurd h
+none_ends NotBuilt old new due h = absurd h
+none_ends NoFile old new due h = absurd h
+
+-- the answer is the status's number, or a push or flush failed
+by_answer : (status : Status) (due : List ℕ) (before after : Written) (answer : ℕ) → Answers status due before after answer
+    → (answer ≡ number_of status) ⊎ ((answer ≡ 4) × Rose before.faults after.faults)
+by_answer status due before after answer (whole e a) = inl e
+by_answer status due before after answer (failed e r a) = inr (e, r)
+
+pub read_fault : (words : List (List ℕ)) (old new : Outside) (before after : Written) (answer : ℕ) → Comes words old new before after answer → answer ≡ 3
+    → Rose old.load_faults new.load_faults ⊎ Rose old.source_faults new.source_faults
+read_fault words old new before after answer c e =
+    ⊎_elim (λ h. read_ends (command_of words) c.status old new c.due (sym h ∙ e) c.ends) (λ h. let f = h.0 in absurd (omega arith)) (by_answer c.status c.due before after answer c.answers)
+
+pub store_fault : (words : List (List ℕ)) (old new : Outside) (before after : Written) (answer : ℕ) → Comes words old new before after answer → answer ≡ 11 → Rose old.store_faults new.store_faults
+store_fault words old new before after answer c e =
+    ⊎_elim (λ h. store_ends (command_of words) c.status old new c.due (sym h ∙ e) c.ends) (λ h. let f = h.0 in absurd (omega arith)) (by_answer c.status c.due before after answer c.answers)
+
+pub write_fault : (words : List (List ℕ)) (old new : Outside) (before after : Written) (answer : ℕ) → Comes words old new before after answer → answer ≡ 4 → Rose before.faults after.faults
+write_fault words old new before after answer c e =
+    ⊎_elim (λ h. absurd (write_ends (command_of words) c.status old new c.due (sym h ∙ e) c.ends)) (λ h. h.1) (by_answer c.status c.due before after answer c.answers)
+
+pub no_file : (words : List (List ℕ)) (old new : Outside) (before after : Written) (answer : ℕ) → Comes words old new before after answer → answer ≡ 17 → LacksProgram (command_of words) old
+no_file words old new before after answer c e =
+    ⊎_elim (λ h. no_file_ends (command_of words) c.status old new c.due (sym h ∙ e) c.ends) (λ h. let f = h.0 in absurd (omega arith)) (by_answer c.status c.due before after answer c.answers)
+
+pub usage : (words : List (List ℕ)) (old new : Outside) (before after : Written) (answer : ℕ) → Comes words old new before after answer → answer ≡ 2 → command_of words ≡ None
+usage words old new before after answer c e =
+    ⊎_elim (λ h. usage_ends (command_of words) c.status old new c.due (sym h ∙ e) c.ends) (λ h. let f = h.0 in absurd (omega arith)) (by_answer c.status c.due before after answer c.answers)
+
+pub usage_comes : (words : List (List ℕ)) (old new : Outside) (before after : Written) (answer : ℕ) → Comes words old new before after answer → command_of words ≡ None → (answer ≡ 2) ⊎ (answer ≡ 4)
+usage_comes words old new before after answer c none =
+    let P : Option Command → Type 0 = λ command. CommandEnds command c.status old new c.due in
+    ⊎_elim (λ h. inl (h ∙ none_ends c.status old new c.due (subst P none c.ends))) (λ h. inr h.0) (by_answer c.status c.due before after answer c.answers)

@@ -1,28 +1,27 @@
 -- The tables of a compiled program are within the ranges of an image, and its words are plain.
-use Rattle.std.proofs.Common.{◌≡◌, ℕ, zero, suc, ◌+◌, ◌*◌, ◌/◌, ◌%◌, ◌<◌, ◌≤◌, ◌==◌, ◌^◌, ℤ, Bool, true, false, if◌then◌else◌, List, [], ◌∷◌, ◌++◌, length, map, All, Option, Some, None, FitsSigned, refl, sym, ap, subst, ◌∙◌, arith, length-append, add-one}
+use Rattle.std.proofs.Common.{◌≡◌, ℕ, suc, ◌+◌, ◌/◌, ◌%◌, ◌<◌, ◌≤◌, ◌==◌, ◌^◌, Bool, true, false, if◌then◌else◌, List, [], ◌∷◌, ◌++◌, length, map, All, Some, refl, sym, ap, subst, ◌∙◌, arith, length-append}
 use Rattle.std.specs.Int.{w16, cast_signed}
 use Rattle.std.specs.List.{AllByRecursion, IsDistinct}
 use Rattle.std.proofs.lemmas.List.{length-map}
-use Rattle.std.proofs.lemmas.Map.Keys.{IsDistinct-cons}
 use Rattle.std.proofs.lemmas.List.Elements.{All-head, All-tail}
 use Rattle.std.proofs.lemmas.Option.{slice_get_within}
 use Rattle.mb_isa.specs.declared.registers.Reg.{Reg}
 use Rattle.mb_isa.specs.declared.registers.Reg.TheVariants.{R0, R3, R4}
 use Rattle.mb_isa.specs.declared.words.Instr.{Instr}
-use Rattle.mb_isa.specs.declared.words.Instr.TheVariants.{Addk, Addik, Imm, Lwi, Swi, Eot, End}
+use Rattle.mb_isa.specs.declared.words.Instr.TheVariants.{Addk, Addik, Imm, Swi, End}
 use Rattle.mb_isa.specs.Codes.{code_of, IsInstr}
 use Rattle.mb_isa.specs.Candidates.{decoded}
 use Rattle.pt_image.specs.declared.image.Point.{Point}
 use Rattle.pt_image.specs.declared.image.Parts.{Parts}
-use Rattle.pt_image.specs.Ranges.{IsImage, AllBelow, ArePoints, IsPoint, places_of}
+use Rattle.pt_image.specs.Ranges.{IsImage, AllBelow, IsPoint, places_of}
 use Rattle.mb_core.specs.Plain.{IsPlain, is_plain}
 use Rattle.pc_small.specs.declared.program.Cell.{Cell}
 use Rattle.pc_small.specs.declared.program.Operand.{Operand}
 use Rattle.pc_small.specs.declared.program.Operand.TheVariants.{Constant, Read}
 use Rattle.pc_small.specs.declared.program.Step.{Step}
 use Rattle.pc_small.specs.declared.program.Step.TheVariants.{Assign, Pause}
-use Rattle.pc_small.specs.Program.{Program, IsSmall, StepsFit, OperandFits, OperandsFit, GoalFits, is_input, is_output, operand_count}
-use Rattle.pc_meaning.specs.Meaning.{inputs_of, outputs_of, chosen_from}
+use Rattle.pc_small.specs.Program.{Program, IsSmall, StepsFit, OperandFits, OperandsFit, is_input, is_output}
+use Rattle.pc_meaning.specs.Meaning.{inputs_of, outputs_of}
 use Rattle.pc_compile.specs.Words.{byte_of, is_wide, constant_words, operand_words, added_words, sum_words, step_words, steps_words, code_words, pauses_from, image_of}
 use Rattle.pc_compile.proofs.Running.{decoded_code}
 use Rattle.pc_compile.proofs.Numbers.{fits_half, fits_byte}

@@ -1,5 +1,5 @@
 -- The numbers of immediates and addresses.
-use Rattle.std.proofs.Common.{◌≡◌, ◌⊎◌, inl, inr, ℕ, zero, suc, ◌+◌, ◌-◌, ◌*◌, ◌/◌, ◌%◌, ◌^◌, ◌<◌, ◌≤◌, ℤ, pos, negsuc, neg_ℤ, ◌+ℤ◌, ◌*ℤ◌, Bool, true, false, nat_lt, ◌==◌, ◌&&◌, if◌then◌else◌, FitsSigned, refl, sym, ap, ◌∙◌, arith, lit<, ⊎_elim}
+use Rattle.std.proofs.Common.{◌≡◌, ℕ, suc, ◌+◌, ◌-◌, ◌*◌, ◌/◌, ◌%◌, ◌^◌, ◌<◌, ◌≤◌, ℤ, pos, negsuc, neg_ℤ, ◌+ℤ◌, ◌*ℤ◌, true, false, nat_lt, ◌==◌, ◌&&◌, FitsSigned, sym, ap, ◌∙◌, arith, ⊎_elim}
 use Rattle.std.specs.Int.{w16, w32, int_wrap, int_wrapping_add, cast_signed, cast_unsigned}
 use Rattle.std.proofs.lemmas.Int.{ints, of_z-to_z, to_z_pos}
 use Rattle.std.proofs.Math.Facts.{to_z-neg, sfits_to_z}

@@ -1,12 +1,11 @@
 -- From one rest of `main` to the next.
-use Rattle.std.proofs.Common.{◌≡◌, ℕ, zero, suc, ◌+◌, ◌-◌, ◌*◌, ◌<◌, ◌≤◌, ℤ, pos, ◌+ℤ◌, Bool, true, false, nat_lt, ◌==◌, ◌&&◌, ◌||◌, if◌then◌else◌, List, [], ◌∷◌, ◌++◌, drop, length, map, All, Option, Some, None, slice_get, slice_set, FitsSigned, refl, sym, ap, subst, ◌∙◌, arith, zero-add, add-zero, add_assoc, add-one, append_assoc, length-append, eq-eqb}
+use Rattle.std.proofs.Common.{◌≡◌, ℕ, zero, suc, ◌+◌, ◌<◌, ◌≤◌, ℤ, ◌+ℤ◌, Bool, true, false, ◌&&◌, ◌||◌, if◌then◌else◌, List, [], ◌∷◌, ◌++◌, drop, length, map, All, Option, Some, None, slice_get, slice_set, FitsSigned, refl, sym, ap, subst, ◌∙◌, arith, append_assoc, length-append, eq-eqb}
 use Rattle.std.proofs.lemmas.Option.{slice_get_within}
 use Rattle.std.specs.Int.{w32, int_wrap}
 use Rattle.std.specs.List.{list_any}
 use Rattle.std.proofs.lemmas.Int.{SFits-int_wrap}
-use Rattle.std.proofs.lemmas.List.{map-append, length-set, drop-drop}
+use Rattle.std.proofs.lemmas.List.{length-set}
 use Rattle.std.proofs.lemmas.List.Elements.{All-set}
-use Rattle.mb_isa.specs.declared.words.Instr.{Instr}
 use Rattle.mb_isa.specs.declared.words.Instr.TheVariants.{Eot, End}
 use Rattle.mb_isa.specs.Codes.{code_of}
 use Rattle.mb_isa.specs.Costs.{IsCosts}
@@ -16,18 +15,18 @@ use Rattle.mb_pfu.specs.declared.TrapKind.TheVariants.{WrongPlace}
 use Rattle.pt_image.specs.declared.image.Point.{Point}
 use Rattle.pt_image.specs.declared.image.Parts.{Parts}
 use Rattle.mb_core.specs.State.{State, with_slot}
-use Rattle.mb_core.specs.Words.{Effect, Leaves, Refused, effect, is_pause_of, is_listed}
+use Rattle.mb_core.specs.Words.{Leaves, Refused, is_pause_of, is_listed}
 use Rattle.mb_core.specs.Tick.{first_ready}
 use Rattle.pc_small.specs.declared.program.Cell.{Cell}
 use Rattle.pc_small.specs.declared.program.Operand.{Operand}
 use Rattle.pc_small.specs.declared.program.Step.{Step}
 use Rattle.pc_small.specs.declared.program.Step.TheVariants.{Assign, Pause}
-use Rattle.pc_small.specs.Program.{Program, StepsFit, OperandsFit}
-use Rattle.pc_meaning.specs.Meaning.{Store, Residual, Here, Seq, Outcome, Done, Paused, Standing, Unstarted, At, Ended, Moment, statements_from, start_all, resume, moment_of, sum_of, added, value_of}
+use Rattle.pc_small.specs.Program.{StepsFit, OperandsFit}
+use Rattle.pc_meaning.specs.Meaning.{Store, Residual, Standing, Unstarted, At, Ended, Moment, statements_from, start_all, resume, moment_of, sum_of, added, value_of}
 use Rattle.pc_compile.specs.Words.{step_words, steps_words, pauses_from}
 use Rattle.pc_compile.specs.Faithful.{number_of, PausedAt, StandsIn}
 use Rattle.pc_compile.proofs.Running.{standing, get_front, drop_next, head_or}
-use Rattle.pc_compile.proofs.Straight.{Goes, goes_none, goes_one, goes_then, behind, assign_goes, value_fits}
+use Rattle.pc_compile.proofs.Straight.{Goes, goes_one, goes_then, behind, assign_goes, value_fits}
 
 -- the words and pauses of the steps that are left begin at a place, and with a number
 pub record Lies (image : Parts) (cells : List Cell) (number at : ℕ) (left : List Step) : Type 0 where

@@ -1,20 +1,17 @@
 -- Steps of the only slot of an image.
-use Rattle.std.proofs.Common.{◌≡◌, ℕ, zero, suc, ◌+◌, ◌-◌, ◌*◌, ◌<◌, ◌≤◌, ℤ, Bool, true, false, nat_lt, ◌==◌, if◌then◌else◌, List, [], ◌∷◌, ◌++◌, drop, Option, Some, None, slice_get, refl, sym, ap, subst, ◌∙◌, arith, option_and_then, eq-eqb}
+use Rattle.std.proofs.Common.{◌≡◌, ℕ, zero, suc, ◌+◌, ◌-◌, ◌≤◌, ℤ, false, nat_lt, ◌==◌, if◌then◌else◌, List, [], ◌∷◌, drop, Option, Some, None, slice_get, refl, sym, ap, ◌∙◌, arith, option_and_then, eq-eqb}
 use Rattle.mb_isa.specs.declared.words.Instr.{Instr}
 use Rattle.mb_isa.specs.Codes.{code_of, IsInstr}
-use Rattle.mb_isa.specs.Candidates.{decoded, candidate_for}
-use Rattle.mb_isa.specs.Costs.{IsCosts, cost_of}
-use Rattle.mb_isa.specs.Classes.{class_of}
+use Rattle.mb_isa.specs.Candidates.{decoded}
 use Rattle.mb_isa.proofs.Inverse.{candidate_for-code_of}
-use Rattle.mb_pfu.specs.declared.Slot.{Slot}
 use Rattle.mb_pfu.specs.declared.Slot.TheVariants.{Ready}
 use Rattle.mb_pfu.specs.declared.TrapKind.TheVariants.{WrongPlace, Late}
 use Rattle.std.proofs.lemmas.List.{drop-drop}
 use Rattle.pt_image.specs.declared.image.Parts.{Parts}
 use Rattle.mb_core.specs.State.{State}
-use Rattle.mb_core.specs.Words.{Effect, Leaves, effect}
-use Rattle.mb_core.specs.Step.{Stepped, Done, Traps, is_barred, charge_of, within, step_of, step_at, step}
-use Rattle.mb_core.specs.Tick.{Turned, after_step, after_choice, turns, first_ready}
+use Rattle.mb_core.specs.Words.{Leaves, effect}
+use Rattle.mb_core.specs.Step.{Done, Traps, is_barred, charge_of, within, step_of, step_at}
+use Rattle.mb_core.specs.Tick.{after_step, turns}
 
 -- the only slot is ready at a place
 abbrev pub standing : List ℤ → Option ℤ → List ℤ → ℕ → State

@@ -1,5 +1,5 @@
 -- How many words steps take.
-use Rattle.std.proofs.Common.{◌≡◌, ℕ, suc, ◌+◌, ◌*◌, ◌<◌, ◌≤◌, Bool, true, false, if◌then◌else◌, List, [], ◌∷◌, ◌++◌, length, refl, arith, length-append}
+use Rattle.std.proofs.Common.{◌≡◌, ℕ, suc, ◌+◌, ◌*◌, ◌<◌, ◌≤◌, Bool, true, false, if◌then◌else◌, List, [], ◌∷◌, ◌++◌, length, arith, length-append}
 use Rattle.mb_isa.specs.declared.registers.Reg.{Reg}
 use Rattle.mb_isa.specs.declared.registers.Reg.TheVariants.{R0, R3, R4}
 use Rattle.mb_isa.specs.declared.words.Instr.{Instr}
@@ -10,7 +10,7 @@ use Rattle.pc_small.specs.declared.program.Operand.TheVariants.{Constant, Read}
 use Rattle.pc_small.specs.declared.program.Step.{Step}
 use Rattle.pc_small.specs.declared.program.Step.TheVariants.{Assign, Pause}
 use Rattle.pc_small.specs.Program.{StepsFit, operand_count}
-use Rattle.pc_compile.specs.Words.{byte_of, is_wide, operand_words, added_words, sum_words, step_words, steps_words}
+use Rattle.pc_compile.specs.Words.{byte_of, is_wide, operand_words, added_words, step_words, steps_words}
 
 choice_size : (wide : Bool) (a b c : Instr) → length (if wide then a ∷ b ∷ [] else c ∷ []) ≤ 2
 choice_size true a b c = omega arith

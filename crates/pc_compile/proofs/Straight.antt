@@ -1,16 +1,16 @@
 -- What straight words do: operands, sums and assignments.
-use Rattle.std.proofs.Common.{◌≡◌, ℕ, zero, suc, ◌+◌, ◌-◌, ◌*◌, ◌/◌, ◌%◌, ◌^◌, ◌<◌, ◌≤◌, ℤ, pos, ◌+ℤ◌, Bool, true, false, nat_lt, ◌==◌, ◌&&◌, if◌then◌else◌, List, [], ◌∷◌, ◌++◌, drop, length, map, All, Option, Some, None, slice_get, slice_set, slice_index_or, FitsSigned, refl, sym, ap, subst, ◌∙◌, arith, zero-add, add-zero, add_assoc, add-one, ⊎_elim, append_assoc, length-append}
+use Rattle.std.proofs.Common.{◌≡◌, ℕ, zero, suc, ◌+◌, ◌*◌, ◌/◌, ◌%◌, ◌^◌, ◌<◌, ◌≤◌, ℤ, pos, ◌+ℤ◌, Bool, true, false, ◌==◌, if◌then◌else◌, List, [], ◌∷◌, ◌++◌, drop, length, map, All, Option, Some, None, slice_set, slice_index_or, FitsSigned, refl, sym, ap, subst, ◌∙◌, arith, zero-add, add-zero, add_assoc, ⊎_elim, append_assoc, length-append}
 use Rattle.std.proofs.lemmas.Bool.{cases_lt}
 use Rattle.std.proofs.lemmas.List.{map-append, length-map, drop-drop, length-set, get_or-set_same, get_or-set_other}
 use Rattle.std.proofs.lemmas.Int.{wrapping_add_is, SFits-int_wrap}
 use Rattle.std.proofs.Math.Seq.{drop-append_seam}
 use Rattle.pt_base.specs.Operators.{binary_of}
 use Rattle.pt_base.specs.declared.operators.BinOp.TheVariants.{Add}
-use Rattle.std.specs.Int.{w16, w32, cast_signed, cast_unsigned, int_wrapping_add, int_wrap}
+use Rattle.std.specs.Int.{w16, w32, cast_signed, int_wrapping_add}
 use Rattle.mb_isa.specs.declared.registers.Reg.{Reg}
 use Rattle.mb_isa.specs.declared.registers.Reg.TheVariants.{R0, R3, R4}
 use Rattle.mb_isa.specs.declared.words.Instr.{Instr}
-use Rattle.mb_isa.specs.declared.words.Instr.TheVariants.{Addk, Addik, Imm, Lwi, Swi, Eot, End}
+use Rattle.mb_isa.specs.declared.words.Instr.TheVariants.{Addk, Addik, Imm, Lwi, Swi}
 use Rattle.mb_isa.specs.Registers.{number}
 use Rattle.mb_isa.specs.Codes.{code_of, IsInstr}
 use Rattle.mb_isa.specs.Costs.{IsCosts, cost_of, place}
@@ -19,9 +19,9 @@ use Rattle.mb_isa.specs.declared.costs.Class.{Class}
 use Rattle.mb_pfu.specs.declared.Slot.TheVariants.{Ready}
 use Rattle.pt_image.specs.declared.image.Parts.{Parts}
 use Rattle.mb_core.specs.State.{State}
-use Rattle.mb_core.specs.Words.{Effect, Leaves, effect}
+use Rattle.mb_core.specs.Words.{Leaves, effect}
 use Rattle.mb_core.specs.Step.{is_barred, charge_of}
-use Rattle.mb_core.specs.Tick.{Turned, turns}
+use Rattle.mb_core.specs.Tick.{turns}
 use Rattle.mb_core.specs.Words.{immediate, byte_at, is_good, Refused}
 use Rattle.mb_core.specs.State.{with_slot, with_register, with_word, word_at}
 use Rattle.mb_pfu.specs.declared.TrapKind.TheVariants.{BadAddress}
@@ -32,8 +32,8 @@ use Rattle.pc_small.specs.Program.{OperandFits, OperandsFit}
 use Rattle.pc_small.specs.declared.program.Step.TheVariants.{Assign}
 use Rattle.pc_meaning.specs.Meaning.{value_of, added, sum_of}
 use Rattle.pt_base.specs.Operators.{word_of}
-use Rattle.pc_compile.specs.Words.{byte_of, constant_words, operand_words, added_words, sum_words, step_words, is_wide}
-use Rattle.pc_compile.proofs.Numbers.{plus_zero, narrow_bits, wide_bits, unsigned_low, fits_half, cell_byte, is_cell, fits_byte}
+use Rattle.pc_compile.specs.Words.{byte_of, operand_words, added_words, step_words, is_wide}
+use Rattle.pc_compile.proofs.Numbers.{plus_zero, narrow_bits, wide_bits, fits_half, cell_byte, is_cell, fits_byte}
 use Rattle.pc_compile.proofs.Running.{standing, one_step, drop_next}
 
 -- so many steps lead from one state to another, for a charge of at most 255 each

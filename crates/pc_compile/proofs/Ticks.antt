@@ -1,30 +1,28 @@
 -- Ticks of the compiled image.
-use Rattle.std.proofs.Common.{◌≡◌, ℕ, zero, suc, ◌+◌, ◌-◌, ◌*◌, ◌<◌, ◌≤◌, ℤ, pos, Bool, true, false, nat_lt, mul-le-mul, cond, zero-add, if◌then◌else◌, List, [], ◌∷◌, ◌++◌, drop, length, map, count_by, All, Option, Some, None, slice_set, FitsSigned, refl, sym, ap, subst, ◌∙◌, arith, add-one}
+use Rattle.std.proofs.Common.{◌≡◌, ℕ, suc, ◌+◌, ◌-◌, ◌≤◌, ℤ, Bool, true, false, mul-le-mul, cond, zero-add, if◌then◌else◌, List, [], ◌∷◌, length, map, count_by, All, None, slice_set, FitsSigned, refl, sym, ap, subst, ◌∙◌, arith}
 use Rattle.std.specs.Int.{w32}
 use Rattle.std.proofs.lemmas.List.{length-set, length-map}
 use Rattle.std.proofs.lemmas.List.Elements.{All-set, All-head, All-tail}
 use Rattle.std.proofs.lemmas.List.Sums.{sum_by-cons}
 use Rattle.mb_isa.specs.declared.costs.Class.TheVariants as class
 use Rattle.mb_isa.specs.Costs.{IsCosts, cost_of}
-use Rattle.mb_isa.specs.Codes.{code_of}
 use Rattle.mb_pfu.specs.declared.Slot.{Slot}
-use Rattle.mb_pfu.specs.declared.Slot.TheVariants.{Ready, Paused as SlotPaused, Ended as SlotEnded}
+use Rattle.mb_pfu.specs.declared.Slot.TheVariants.{Ready, Ended as SlotEnded}
 use Rattle.mb_pfu.specs.declared.TrapKind.TheVariants.{Late}
 use Rattle.pt_image.specs.declared.image.Parts.{Parts}
 use Rattle.mb_core.specs.State.{State}
-use Rattle.mb_core.specs.Tick.{Turned, Rests as TurnsRest, turns, after_choice, Outcome as TickOutcome, Ends, Trapped, outcome_of, tick_from, begun, base_of, with_inputs, woken, first_ready, outputs_of as image_outputs}
-use Rattle.mb_core.specs.Run.{loaded, zeros, run, ticks_from, after_tick}
+use Rattle.mb_core.specs.Tick.{Rests as TurnsRest, turns, after_choice, Outcome as TickOutcome, Ends, Trapped, outcome_of, tick_from, begun, base_of, with_inputs, woken, first_ready}
+use Rattle.mb_core.specs.Run.{loaded, zeros, ticks_from, after_tick}
 use Rattle.pc_small.specs.declared.program.Cell.{Cell}
 use Rattle.pc_small.specs.declared.program.Step.{Step}
-use Rattle.pc_small.specs.declared.program.Step.TheVariants.{Assign, Pause}
-use Rattle.pc_small.specs.Program.{Program, IsSmall, StepsFit, is_input, is_output, operand_count}
-use Rattle.pc_meaning.specs.Meaning.{Store, Standing, Unstarted, At, Ended, Moment, Outcome, start_all, resume, statements_from, moment_of, sampled, inputs_of, outputs_of, words_at, chosen_from, went, ticked, before_ticks, moments_from, moments}
-use Rattle.pc_compile.specs.Words.{image_of, steps_words, step_words}
-use Rattle.pc_compile.specs.Faithful.{number_of, StandsIn, EachMeans, TickMeans, IsRow, IsFaithful, most_of_compiled}
+use Rattle.pc_small.specs.Program.{Program, IsSmall, is_input, is_output}
+use Rattle.pc_meaning.specs.Meaning.{Store, Standing, Unstarted, At, Ended, Moment, Outcome, start_all, resume, statements_from, moment_of, sampled, inputs_of, outputs_of, words_at, chosen_from, went, ticked, before_ticks, moments_from}
+use Rattle.pc_compile.specs.Words.{image_of, steps_words}
+use Rattle.pc_compile.specs.Faithful.{number_of, StandsIn, EachMeans, IsRow, IsFaithful, most_of_compiled}
 use Rattle.pc_compile.proofs.Sizes.{steps_size}
 use Rattle.pc_compile.proofs.Running.{standing, not_lt}
-use Rattle.pc_compile.proofs.Straight.{Goes, goes_none, cost_few}
-use Rattle.pc_compile.proofs.Rests.{Lies, Waits, Stage, Rests, runs}
+use Rattle.pc_compile.proofs.Straight.{goes_none, cost_few}
+use Rattle.pc_compile.proofs.Rests.{Stage, Rests, runs}
 
 with_inputs_is : (places : List ℕ) (row memory : List ℤ) → with_inputs places row memory ≡ sampled places row memory
 with_inputs_is [] row memory = refl

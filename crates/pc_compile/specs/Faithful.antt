@@ -1,12 +1,11 @@
 -- What an image does that does what a program means: docs/language.md, "What a compiled program does".
-use Rattle.std.specs.Prelude.{◌≡◌, ℕ, ℤ, ◌≤◌, ◌^◌, FitsSigned, List, [], ◌∷◌, All, length, slice_get, Option, Some, None}
+use Rattle.std.specs.Prelude.{◌≡◌, ℕ, ℤ, ◌≤◌, FitsSigned, List, [], ◌∷◌, All, length, slice_get, Option, Some, None}
 use Rattle.std.specs.Int.{w32}
 use Rattle.mb_isa.specs.Costs.{IsCosts}
 use Rattle.mb_pfu.specs.declared.Slot.{Slot}
 use Rattle.mb_pfu.specs.declared.Slot.TheVariants.{Paused, Ended as SlotEnded}
 use Rattle.pt_image.specs.declared.image.Point.{Point}
 use Rattle.pt_image.specs.declared.image.Parts.{Parts}
-use Rattle.mb_core.specs.State.{State}
 use Rattle.mb_core.specs.Tick.{Outcome, Ends, Trapped}
 use Rattle.mb_core.specs.Run.{run}
 use Rattle.pc_small.specs.Program.{Program}

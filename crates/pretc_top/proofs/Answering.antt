@@ -1,9 +1,9 @@
 -- Answers after some bytes were written.
-use Rattle.std.proofs.Common.{◌≡◌, ◌≤◌, ℕ, List, [], ◌∷◌, ◌++◌, Option, refl, sym, subst, arith}
+use Rattle.std.proofs.Common.{◌≤◌, ℕ, List, [], sym, subst, arith}
 use Rattle.std.specs.Io.KnownBytes.{Appends}
 use Rattle.pt_outside.specs.Counts.{Rose}
 use Rattle.pretc_top.specs.declared.statuses.Status.{Status}
-use Rattle.pretc_top.specs.Go.{Written, written_is, Answers, whole, failed}
+use Rattle.pretc_top.specs.Go.{Written, Answers, whole, failed}
 use Rattle.pretc_top.proofs.Fronts.{appends_both, front_after}
 use Rattle.pretc_top.proofs.Ticking.{append_nil}
 

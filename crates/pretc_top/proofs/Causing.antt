@@ -1,12 +1,11 @@
 -- What a status tells of its cause.
-use Rattle.std.proofs.Common.{◌≡◌, ◌⊎◌, inl, inr, ◌≤◌, ℕ, List, Option, Some, None, refl, sym, ap, subst, ◌∙◌, ⊎_elim, arith}
+use Rattle.std.proofs.Common.{◌≡◌, ◌⊎◌, inl, inr, ℕ, List, Option, Some, None, refl, sym, subst, ◌∙◌, ⊎_elim, arith}
 use Rattle.pt_outside.specs.Counts.{Rose}
-use Rattle.pt_outside.specs.Files.{Files, Lacks, Holds}
 use Rattle.pretc_top.specs.declared.statuses.Status.{Status}
 use Rattle.pretc_top.specs.declared.statuses.Status.TheVariants.{Done, Usage, ReadFault, WriteFault, WantOfMemory, StoreFault, NotBuilt, NoFile}
 use Rattle.pretc_top.specs.Commands.{Command, Go, command_of, number_of}
-use Rattle.pretc_top.specs.Go.{Outside, Written, CommandEnds, GoEnds, UsageEnds, Answers, whole, failed, Comes, IsFailedLoad, IsFailedPull}
-use Rattle.pretc_top.specs.Causes.{LacksProgram, OfCommand}
+use Rattle.pretc_top.specs.Go.{Outside, Written, CommandEnds, UsageEnds, Answers, whole, failed, Comes}
+use Rattle.pretc_top.specs.Causes.{LacksProgram}
 
 read_ends : (command : Option Command) (status : Status) (old new : Outside) (due : List ℕ) → number_of status ≡ 3 → CommandEnds command status old new due
     → Rose old.load_faults new.load_faults ⊎ Rose old.source_faults new.source_faults

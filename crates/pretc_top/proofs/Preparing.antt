@@ -1,5 +1,5 @@
 -- The stages of `go`, one after another.
-use Rattle.std.proofs.Common.{◌≡◌, ◌≤◌, ◌⊎◌, inl, inr, ℕ, List, length, Option, Some, None, refl, sym, ap, subst, ◌∙◌}
+use Rattle.std.proofs.Common.{inr, ℕ, List, length, Option, Some, None, refl, ap, ◌∙◌}
 use Rattle.std.specs.FinMap.{insert}
 use Rattle.pt_outside.specs.Files.{Files, KeepsFiles, Stores}
 use Rattle.pt_image.specs.declared.image.Parts.{Parts}
@@ -7,7 +7,7 @@ use Rattle.pt_image.specs.Text.{text_of}
 use Rattle.pretc_top.specs.declared.statuses.Status.{Status}
 use Rattle.pretc_top.specs.declared.statuses.Status.TheVariants.{Done, Usage, ReadFault, WriteFault, WantOfMemory, StoreFault, NotBuilt, NoFile}
 use Rattle.pretc_top.specs.Commands.{line_of}
-use Rattle.pretc_top.specs.Go.{Outside, IsBuilt, IsStored, IsRead, IsBadTrace, GoEnds}
+use Rattle.pretc_top.specs.Go.{Outside, IsBuilt, IsStored, GoEnds}
 use Rattle.pretc_top.specs.Stages.{TraceFails}
 
 stores_after : (old mid new : Option Files) (name text : List ℕ) → KeepsFiles old mid → Stores mid new name text → Stores old new name text

@@ -1,21 +1,17 @@
 -- A ready machine reports what the program means.
-use Rattle.std.proofs.Common.{◌≡◌, ◌≤◌, ◌<◌, ◌*◌, ℕ, ℤ, List, [], ◌∷◌, length, map, Option, None, All, FitsSigned, refl, sym, ap, subst, ◌∙◌, arith}
-use Rattle.std.specs.Int.{w32}
+use Rattle.std.proofs.Common.{◌≡◌, ◌≤◌, ◌<◌, ℕ, ℤ, List, [], ◌∷◌, length, Option, All, refl, sym, ap, subst, ◌∙◌, arith}
 use Rattle.std.specs.List.{AllByRecursion}
 use Rattle.std.proofs.lemmas.List.Elements.{All-cons, All-nil}
 use Rattle.mb_isa.specs.Costs.{IsCosts, unit}
 use Rattle.pt_image.specs.declared.image.Parts.{Parts}
-use Rattle.pt_trace.specs.Rows.{rows_of}
 use Rattle.pt_trace.specs.Report.{run_text}
-use Rattle.mb_core.specs.Machine.{Whole, fresh}
-use Rattle.mb_core.specs.Run.{run, ticks_from}
+use Rattle.mb_core.specs.Machine.{Whole}
+use Rattle.mb_core.specs.Run.{run}
 use Rattle.pc_small.specs.Program.{Program}
-use Rattle.pc_meaning.specs.Meaning.{Moment, moments, meaning_of, inputs_of, outputs_of}
-use Rattle.pc_compile.specs.Faithful.{IsRow, EachMeans, most_of_compiled}
-use Rattle.pc_compile.specs.Compiled.{Compiles}
-use Rattle.pretc_top.specs.Told.{told, AllEnded}
+use Rattle.pc_meaning.specs.Meaning.{moments, inputs_of}
+use Rattle.pc_compile.specs.Faithful.{IsRow, EachMeans}
 use Rattle.pretc_top.specs.Reported.{told_by, NeverTraps}
-use Rattle.pretc_top.specs.Go.{Outside, IsStored, IsRead, IsReport, IsDone, cycles_most}
+use Rattle.pretc_top.specs.Go.{Outside, IsRead, IsDone, cycles_most}
 use Rattle.pretc_top.specs.Readying.{IsReady}
 use Rattle.pretc_top.proofs.RowsFit.{IsWordRow, rows_fit}
 use Rattle.pretc_top.proofs.Meant.{each_ended, each_outputs}

@@ -1,6 +1,6 @@
 -- What the loop over the ticks keeps.
 use Rattle.std.proofs.lemmas.List.{drop_more}
-use Rattle.std.proofs.Common.{◌≡◌, ◌<◌, get_or, OnErr, ℕ, suc, Result, Ok, Err, add-zero, ℤ, ◌+◌, ◌≤◌, max, List, [], ◌∷◌, ◌++◌, Option, Some, None, length, drop, refl, sym, ap, subst, ◌∙◌, append_assoc, length-append, arith, zero-add}
+use Rattle.std.proofs.Common.{◌≡◌, ◌<◌, get_or, OnErr, ℕ, suc, Result, Ok, Err, add-zero, ℤ, ◌+◌, max, List, [], ◌∷◌, ◌++◌, Option, Some, None, length, drop, refl, sym, ap, subst, ◌∙◌, append_assoc, length-append, arith}
 use Rattle.std.specs.Io.KnownBytes.{Appends}
 use Rattle.pt_outside.specs.Files.{AppendsFront}
 use Rattle.pt_trace.specs.Report.{tick_line, tick_lines, greatest, worst_line}
@@ -11,7 +11,7 @@ use Rattle.mb_core.specs.Tick.{Outcome, Ends, Trapped, tick_from}
 use Rattle.mb_core.specs.Run.{ticks_from, after_tick}
 use Rattle.pt_outside.specs.declared.traits.Failed.{Failed}
 use Rattle.pretc_top.specs.Told.{told, Ended, AllEnded}
-use Rattle.pretc_top.specs.Reported.{IsTickWritten, TickWritten, told_by, NeverTraps}
+use Rattle.pretc_top.specs.Reported.{TickWritten, told_by, NeverTraps}
 use Rattle.pretc_top.proofs.Fronts.{appends_none, appends_both, front_after}
 
 together : {A : Type 0} (xs ys zs : List A) → xs ++ (ys ++ zs) ≡ (xs ++ ys) ++ zs

@@ -1,9 +1,8 @@
 -- The causes of the statuses, each read off by its number: docs/commands.md, "Statuses".
-use Rattle.std.specs.Prelude.{◌≡◌, ◌⊎◌, ℕ, List, Option, Some, None}
-use Rattle.pt_outside.specs.Counts.{Rose}
-use Rattle.pt_outside.specs.Files.{Files, Lacks, KeepsFiles}
-use Rattle.pretc_top.specs.Commands.{Command, Go, command_of}
-use Rattle.pretc_top.specs.Go.{Outside, Written}
+use Rattle.std.specs.Prelude.{ℕ, List, Option, Some, None}
+use Rattle.pt_outside.specs.Files.{Files, Lacks}
+use Rattle.pretc_top.specs.Commands.{Command, Go}
+use Rattle.pretc_top.specs.Go.{Outside}
 
 -- a fact about the names of a command; words that are none have no such fact
 abbrev pub OfCommand : Option Command → (List ℕ → List ℕ → Type 0) → Type 0

@@ -1,5 +1,5 @@
 -- The words of the command line, and the statuses: docs/commands.md.
-use Rattle.std.specs.Prelude.{◌≡◌, ℕ, Bool, true, false, ◌&&◌, not, if◌then◌else◌, List, [], ◌∷◌, ◌++◌, codes, Option, Some, None}
+use Rattle.std.specs.Prelude.{ℕ, ◌&&◌, not, if◌then◌else◌, List, [], ◌∷◌, codes, Option, Some, None}
 use Rattle.std.specs.Str.{bytes_eq}
 use Rattle.pretc_top.specs.declared.statuses.Status.{Status}
 use Rattle.pretc_top.specs.declared.statuses.Status.TheVariants.{Done, Usage, ReadFault, WriteFault, WantOfMemory, StoreFault, NotBuilt, NoFile}

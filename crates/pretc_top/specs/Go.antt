@@ -1,9 +1,8 @@
 -- What a call of `pretc go` comes to: docs/commands.md.
-use Rattle.std.specs.Prelude.{◌≡◌, ◌⊎◌, ℕ, ℤ, ◌≤◌, List, [], ◌∷◌, map, length, Option, Some, None, IsSome}
+use Rattle.std.specs.Prelude.{◌≡◌, ◌⊎◌, ℕ, ℤ, ◌≤◌, List, map, length, Option, Some, None, IsSome}
 use Rattle.std.specs.Io.KnownBytes.{Appends, IsAtEnd}
 use Rattle.pt_outside.specs.Counts.{Rose}
 use Rattle.pt_outside.specs.Files.{Files, KeepsFiles, Stores, Tears, Holds, Lacks, AppendsFront}
-use Rattle.pt_trace.specs.declared.rows.Rows.{Rows}
 use Rattle.pt_trace.specs.Pulled.{IsAllOf, IsLonger}
 use Rattle.pt_trace.specs.Rows.{rows_of}
 use Rattle.pt_trace.specs.Report.{run_text}

@@ -1,5 +1,5 @@
 -- What stands before the first line of a report.
-use Rattle.std.specs.Prelude.{◌≡◌, ◌≤◌, ℕ, ℤ, List, All, length}
+use Rattle.std.specs.Prelude.{◌≡◌, ℕ, ℤ, List, length}
 use Rattle.mb_isa.specs.Costs.{unit}
 use Rattle.mb_core.specs.Machine.{Whole, fresh}
 use Rattle.pt_image.specs.declared.image.Parts.{Parts}

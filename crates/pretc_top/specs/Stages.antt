@@ -1,9 +1,7 @@
 -- How the stages of `go` fail.
-use Rattle.std.specs.Prelude.{◌≡◌, ◌≤◌, ◌⊎◌, ℕ, List, Option}
+use Rattle.std.specs.Prelude.{ℕ, List, Option}
 use Rattle.pt_outside.specs.Counts.{Rose}
 use Rattle.pt_outside.specs.Files.{Files, KeepsFiles, Tears, Holds, Lacks}
-use Rattle.pt_image.specs.declared.image.Parts.{Parts}
-use Rattle.pt_image.specs.Text.{text_of}
 use Rattle.pc_small.specs.Program.{Program}
 use Rattle.pc_small.specs.Spelling.{Spells}
 use Rattle.pretc_top.specs.declared.statuses.Status.{Status}

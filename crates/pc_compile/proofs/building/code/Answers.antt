@@ -1,4 +1,4 @@
-use Rattle.std.proofs.Common.{◌≡◌, ℕ, ◌+◌, ◌*◌, ◌<◌, ◌≤◌, ◌^◌, length, ap, ◌∙◌, arith}
+use Rattle.std.proofs.Common.{◌≡◌, length, ap, arith}
 use Rattle.pc_small.specs.Program.{IsSmall}
 use Rattle.pc_compile.specs.Words.{steps_words}
 use Rattle.pc_compile.proofs.Sizes.{steps_size}

@@ -1,7 +1,4 @@
-use Rattle.std.proofs.Common.{◌≡◌, ◌++◌, ◌+◌, ◌<◌, ◌^◌, map, drop, length}
-use Rattle.mb_isa.specs.Codes.{code_of}
-use Rattle.pc_small.specs.Program.{StepsFit}
-use Rattle.pc_compile.specs.Words.{steps_words, pauses_from}
+use Rattle.std.proofs.Common.{drop}
 use Rattle.pc_compile.proofs.Pieces.{IsWritten}
 use Rattle.pc_compile.proofs.words.push_steps.Given as goal
 

@@ -1,4 +1,3 @@
-use Rattle.std.proofs.Common.{◌≡◌, List, ℕ}
 use Rattle.pt_trace.specs.Report.{run_text}
 use Rattle.pretc_top.specs.declared.statuses.Status.TheVariants.{Done}
 use Rattle.pretc_top.specs.Reported.{told_by}

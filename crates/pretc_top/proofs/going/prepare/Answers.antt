@@ -1,4 +1,4 @@
-use Rattle.std.proofs.Common.{◌≡◌, ℕ, length, ap, sym, subst, ◌∙◌}
+use Rattle.std.proofs.Common.{◌≡◌, ℕ, length, ap, subst}
 use Rattle.pretc_top.specs.Stages.{TraceFails}
 use Rattle.pretc_top.specs.Go.{IsRead, outside}
 use Rattle.pretc_top.proofs.Preparing.{stored, trace_ends}

@@ -1,4 +1,4 @@
-use Rattle.std.proofs.Common.{◌≡◌, List, ℕ, ℤ, subst}
+use Rattle.std.proofs.Common.{List, ℤ, subst}
 use Rattle.std.specs.Io.KnownBytes.{Appends}
 use Rattle.pt_trace.specs.Report.{run_text}
 use Rattle.pretc_top.specs.declared.statuses.Status.TheVariants.{Done}

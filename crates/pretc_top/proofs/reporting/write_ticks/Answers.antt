@@ -1,4 +1,4 @@
-use Rattle.std.proofs.Common.{◌≡◌, ℕ, ℤ, ◌+◌, ◌≤◌, List, ◌∷◌, ◌++◌, drop, get_or, refl, sym, ap, subst, ◌∙◌, arith}
+use Rattle.std.proofs.Common.{ℕ, ℤ, ◌+◌, List, ◌∷◌, ◌++◌, drop, refl, sym, ap, subst, ◌∙◌, arith}
 use Rattle.pretc_top.proofs.Ticking.{IsUnderWay, breaks, one_more, on_err, rows_from}
 use Rattle.pt_outside.specs.Files.{AppendsFront}
 use Rattle.pt_trace.specs.Report.{tick_lines}

@@ -1,4 +1,4 @@
-use Rattle.std.proofs.Common.{◌≡◌, Ok, ap, ◌∙◌}
+use Rattle.std.proofs.Common.{Ok, ap, ◌∙◌}
 use Rattle.pretc_top.proofs.stages.load_image.Goals as goal
 
 pub returns-in-Ok-None-clause-failed : goal.returns-in-Ok-None-clause-failed

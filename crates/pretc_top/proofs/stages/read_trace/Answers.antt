@@ -1,4 +1,4 @@
-use Rattle.std.proofs.Common.{◌≡◌, IsSome, Option, refl, sym, ap, subst, ◌∙◌}
+use Rattle.std.proofs.Common.{IsSome, Option, refl, sym, ap, subst, ◌∙◌}
 use Rattle.pt_trace.specs.declared.rows.BadLine.{BadLine}
 use Rattle.pt_trace.specs.declared.rows.Rows.{Rows}
 use Rattle.pretc_top.specs.Go.{bad_line}

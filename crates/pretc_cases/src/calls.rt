@@ -16,17 +16,17 @@ pub struct Outside<'a> {
     pub room: usize,
 }
 
-/// How a call came out: its status, what was written, the file `im`, and how many bytes the input has left.
+// How a call came out: its status, what was written, the file `im`, and how many bytes the input has left.
 #[derive(Drop)]
-pub struct Called {
-    pub status: u8,
-    pub written: Text,
-    pub image: Option<Text>,
-    pub left: usize,
+struct Called {
+    status: u8,
+    written: Text,
+    image: Option<Text>,
+    left: usize,
 }
 
-/// Calls `pretc` with these words.
-pub fn call(alloc: Global, words: &[&str], outside: Outside<'_>) -> Result<Called, Memory> {
+// Calls `pretc` with these words.
+fn call(alloc: Global, words: &[&str], outside: Outside<'_>) -> Result<Called, Memory> {
     let mut own = Vec::new(alloc);
     for word in words {
         own.push(Text::of(alloc, word.as_bytes())?)?;
@@ -58,4 +58,35 @@ pub fn call(alloc: Global, words: &[&str], outside: Outside<'_>) -> Result<Calle
         image,
         left: source.left().len(),
     })
+}
+
+/// How a call is to come out.
+#[derive(Clone, Copy)]
+pub struct Wanted<'a> {
+    pub status: u8,
+    pub written: &'a [u8],
+    pub image: Option<&'a [u8]>,
+    pub left: usize,
+}
+
+// Whether the file `im` is as wanted.
+fn is_image(image: &Option<Text>, wanted: Option<&[u8]>) -> bool {
+    match (image, wanted) {
+        (None, None) => true,
+        (Some(text), Some(bytes)) => text.bytes() == bytes,
+        _ => false,
+    }
+}
+
+/// Whether a call with these words comes out as wanted.
+pub fn comes_so(
+    alloc: Global,
+    words: &[&str],
+    outside: Outside<'_>,
+    wanted: Wanted<'_>,
+) -> Result<bool, Memory> {
+    let called = call(alloc, words, outside)?;
+    let written = called.written.bytes() == wanted.written;
+    let image = is_image(&called.image, wanted.image);
+    Ok(called.status == wanted.status && written && image && called.left == wanted.left)
 }

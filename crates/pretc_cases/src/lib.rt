@@ -7,5 +7,5 @@ mod calls;
 mod tests;
 mod ticks;
 
-pub use calls::{Called, Outside, call};
+pub use calls::{Outside, Wanted, comes_so};
 pub use ticks::both_ways;

@@ -1,4 +1,4 @@
-use crate::{Called, Outside, both_ways, call};
+use crate::{Outside, Wanted, both_ways, comes_so};
 use pt_base::{BinOp, Memory, UnOp, binary, unary};
 use std::alloc::Global;
 use std::test::Fail;
@@ -8,6 +8,8 @@ const FIRST: &[u8] =
 
 const FIRST_IMAGE: &[u8] =
     b"ARPRET 1\ncode 6\ne8600000\n30800001\n10632000\nf8600004\nfc200000\nfc400000\nmemory 2\n0\n0\ninputs 1\n0\noutputs 1\n1\nslots 1\n0\naborts 0\npauses 1\n4 0 0\nforks 0\n";
+
+const GO: &[&str] = &["go", "p", "im"];
 
 fn with<'a>(program: &'a [u8], input: &'a [u8]) -> Outside<'a> {
     Outside {
@@ -21,14 +23,28 @@ fn with<'a>(program: &'a [u8], input: &'a [u8]) -> Outside<'a> {
     }
 }
 
-fn go(alloc: Global, outside: Outside<'_>) -> Result<Called, Memory> {
-    call(alloc, &["go", "p", "im"], outside)
+fn wanted<'a>(status: u8, written: &'a [u8], image: Option<&'a [u8]>, left: usize) -> Wanted<'a> {
+    Wanted {
+        status,
+        written,
+        image,
+        left,
+    }
+}
+
+// The first program's report on an input.
+fn reports(alloc: Global, input: &[u8], report: &[u8]) -> Result<bool, Memory> {
+    comes_so(
+        alloc,
+        GO,
+        with(FIRST, input),
+        wanted(0, report, Some(FIRST_IMAGE), 0),
+    )
 }
 
 #[test]
 fn go_reports_the_ticks_and_stores_the_image(rt: HostRuntime) -> Result<(), Fail> {
-    let alloc = rt.alloc();
-    let cases: [(&[u8], &[u8]); 6] = [
+    let cases: &[(&[u8], &[u8])] = &[
         (
             b"4\n5\n6\n",
             b"tick 0: 5 cycles 8\ntick 1: 5 cycles 4\ntick 2: 5 cycles 3\nticks 3 worst 8\n",
@@ -52,39 +68,55 @@ fn go_reports_the_ticks_and_stores_the_image(rt: HostRuntime) -> Result<(), Fail
         ),
     ];
     for (input, report) in cases {
-        let called = go(alloc, with(FIRST, input))?;
-        assert_eq!(rt; called.written.bytes(), report);
-        assert!(rt; called.status == 0 && called.left == 0);
+        assert!(rt; reports(rt.alloc(), input, report)?);
+    }
+    Ok(())
+}
+
+#[test]
+fn other_words_are_a_usage_fault(rt: HostRuntime) -> Result<(), Fail> {
+    let cases: &[&[&str]] = &[
+        &[],
+        &["go"],
+        &["go", "p"],
+        &["go", "p", "p"],
+        &["go", "p", "im", "x"],
+        &["gone", "p", "im"],
+        &["check", "im", "ce", "-"],
+        &["run", "p", "-", "im", "ce"],
+    ];
+    for words in cases {
         assert!(rt;
-            called
-                .image
-                .is_some_and(|image| image.bytes() == FIRST_IMAGE)
+            comes_so(
+                rt.alloc(),
+                words,
+                with(FIRST, b"4\n"),
+                wanted(2, b"usage\n", None, 2)
+            )?
         );
     }
     Ok(())
 }
 
 #[test]
-fn each_status_has_its_line(rt: HostRuntime) -> Result<(), Fail> {
-    let alloc = rt.alloc();
-    let words: [(&[&str], u8, &[u8]); 10] = [
-        (&[], 2, b"usage\n"),
-        (&["go"], 2, b"usage\n"),
-        (&["go", "p"], 2, b"usage\n"),
-        (&["go", "p", "p"], 2, b"usage\n"),
-        (&["go", "p", "im", "x"], 2, b"usage\n"),
-        (&["gone", "p", "im"], 2, b"usage\n"),
-        (&["check", "im", "ce", "-"], 2, b"usage\n"),
-        (&["run", "p", "-", "im", "ce"], 2, b"usage\n"),
-        (&["go", "missing", "im"], 17, b"no file\n"),
-        (&["go", "", "im"], 17, b"no file\n"),
-    ];
-    for (words, status, line) in words {
-        let called = call(alloc, words, with(FIRST, b"4\n"))?;
-        assert_eq!(rt; called.written.bytes(), line);
-        assert!(rt; called.status == status && called.image.is_none() && called.left == 2);
+fn an_absent_program_is_no_file(rt: HostRuntime) -> Result<(), Fail> {
+    let cases: &[&[&str]] = &[&["go", "missing", "im"], &["go", "", "im"]];
+    for words in cases {
+        assert!(rt;
+            comes_so(
+                rt.alloc(),
+                words,
+                with(FIRST, b"4\n"),
+                wanted(17, b"no file\n", None, 2)
+            )?
+        );
     }
-    let programs: [&[u8]; 8] = [
+    Ok(())
+}
+
+#[test]
+fn a_source_that_is_not_small_is_not_built(rt: HostRuntime) -> Result<(), Fail> {
+    let cases: &[&[u8]] = &[
         b"",
         b"void main() { o = 1; }",
         b"int o; void main() { o = 4294967296; }",
@@ -94,112 +126,121 @@ fn each_status_has_its_line(rt: HostRuntime) -> Result<(), Fail> {
         b"void main() { /* */ }",
         b"void main() { EOT",
     ];
-    for program in programs {
-        let called = go(alloc, with(program, b"4\n"))?;
-        assert_eq!(rt; called.written.bytes(), b"not built\n".as_slice());
-        assert!(rt; called.status == 12 && called.image.is_none() && called.left == 2);
-    }
-    for input in [
-        b"4\n\n".as_slice(),
-        b"x".as_slice(),
-        b"4 5\n".as_slice(),
-        b"2147483648\n".as_slice(),
-    ] {
-        let called = go(alloc, with(FIRST, input))?;
-        assert_eq!(rt; called.written.bytes(), b"not built\n".as_slice());
-        assert!(rt; called.status == 12 && called.image.is_some());
+    for program in cases {
+        assert!(rt;
+            comes_so(
+                rt.alloc(),
+                GO,
+                with(program, b"4\n"),
+                wanted(12, b"not built\n", None, 2)
+            )?
+        );
     }
     Ok(())
 }
 
 #[test]
-fn each_call_that_fails_has_its_status(rt: HostRuntime) -> Result<(), Fail> {
-    let alloc = rt.alloc();
-    let all = b"tick 0: 5 cycles 8\ntick 1: 5 cycles 4\nticks 2 worst 8\n".as_slice();
-    let outside = with(FIRST, b"4\n5\n");
-    let load = go(
-        alloc,
-        Outside {
-            shelf_fails: &[0],
-            ..outside
-        },
-    )?;
-    assert_eq!(rt; load.written.bytes(), b"read fault\n".as_slice());
-    assert!(rt; load.status == 3 && load.image.is_none() && load.left == 4);
-    let store = go(
-        alloc,
-        Outside {
-            shelf_fails: &[1],
-            ..outside
-        },
-    )?;
-    assert_eq!(rt; store.written.bytes(), b"store fault\n".as_slice());
-    assert!(rt; store.status == 11 && store.image.is_none() && store.left == 4);
-    for pull in [0, 1, 2] {
-        let called = go(
-            alloc,
-            Outside {
-                source_fails: &[pull],
-                ..outside
-            },
-        )?;
-        assert_eq!(rt; called.written.bytes(), b"read fault\n".as_slice());
-        assert!(rt; called.status == 3 && called.image.is_some());
+fn a_bad_line_is_not_built_and_the_image_stays(rt: HostRuntime) -> Result<(), Fail> {
+    let cases: &[&[u8]] = &[b"4\n\n", b"x", b"4 5\n", b"2147483648\n"];
+    for input in cases {
+        assert!(rt;
+            comes_so(
+                rt.alloc(),
+                GO,
+                with(FIRST, input),
+                wanted(12, b"not built\n", Some(FIRST_IMAGE), 0)
+            )?
+        );
     }
-    for (push, written) in [(0, 0), (1, 19), (2, 38), (3, 54)] {
-        let called = go(
-            alloc,
-            Outside {
-                sink_fails: &[push],
-                ..outside
-            },
-        )?;
-        assert_eq!(rt; called.written.bytes(), &all[..written]);
-        assert!(rt; called.status == 4 && called.image.is_some());
+    Ok(())
+}
+
+#[test]
+fn a_failed_load_or_store_has_its_status(rt: HostRuntime) -> Result<(), Fail> {
+    let mut outside = with(FIRST, b"4\n5\n");
+    outside.shelf_fails = &[0];
+    assert!(rt; comes_so(rt.alloc(), GO, outside, wanted(3, b"read fault\n", None, 4))?);
+    outside.shelf_fails = &[1];
+    assert!(rt;
+        comes_so(
+            rt.alloc(),
+            GO,
+            outside,
+            wanted(11, b"store fault\n", None, 4)
+        )?
+    );
+    Ok(())
+}
+
+#[test]
+fn a_failed_pull_is_a_read_fault_and_the_image_stays(rt: HostRuntime) -> Result<(), Fail> {
+    let cases: &[(&[u64], usize)] = &[(&[0], 4), (&[1], 1), (&[2], 0)];
+    for (fails, left) in cases {
+        let mut outside = with(FIRST, b"4\n5\n");
+        outside.source_fails = fails;
+        assert!(rt;
+            comes_so(
+                rt.alloc(),
+                GO,
+                outside,
+                wanted(3, b"read fault\n", Some(FIRST_IMAGE), *left)
+            )?
+        );
     }
-    let narrow = go(
-        alloc,
-        Outside {
-            room: 37,
-            ..outside
-        },
-    )?;
-    assert_eq!(rt; narrow.written.bytes(), &all[..19]);
-    assert!(rt; narrow.status == 4);
-    for sink_call in [0, 1] {
-        let called = call(
-            alloc,
-            &["go"],
-            Outside {
-                sink_fails: &[sink_call],
-                ..outside
-            },
-        )?;
-        assert!(rt; called.status == 4 && called.image.is_none() && called.left == 4);
+    Ok(())
+}
+
+#[test]
+fn a_failed_push_or_flush_leaves_a_front_of_the_report(rt: HostRuntime) -> Result<(), Fail> {
+    let cases: &[(&[u64], usize, &[u8])] = &[
+        (&[0], 99, b""),
+        (&[1], 99, b"tick 0: 5 cycles 8\n"),
+        (&[2], 99, b"tick 0: 5 cycles 8\ntick 1: 5 cycles 4\n"),
+        (
+            &[3],
+            99,
+            b"tick 0: 5 cycles 8\ntick 1: 5 cycles 4\nticks 2 worst 8\n",
+        ),
+        (&[], 37, b"tick 0: 5 cycles 8\n"),
+    ];
+    for (fails, room, written) in cases {
+        let mut outside = with(FIRST, b"4\n5\n");
+        outside.sink_fails = fails;
+        outside.room = *room;
+        assert!(rt;
+            comes_so(
+                rt.alloc(),
+                GO,
+                outside,
+                wanted(4, written, Some(FIRST_IMAGE), 0)
+            )?
+        );
     }
+    Ok(())
+}
+
+#[test]
+fn a_failed_push_of_usage_is_a_write_fault(rt: HostRuntime) -> Result<(), Fail> {
+    let mut outside = with(FIRST, b"4\n");
+    outside.sink_fails = &[0];
+    assert!(rt; comes_so(rt.alloc(), &["go"], outside, wanted(4, b"", None, 2))?);
+    outside.sink_fails = &[1];
+    assert!(rt; comes_so(rt.alloc(), &["go"], outside, wanted(4, b"usage\n", None, 2))?);
     Ok(())
 }
 
 #[test]
 fn the_machine_does_what_the_program_means(rt: HostRuntime) -> Result<(), Fail> {
-    let alloc = rt.alloc();
-    let sum: &[&[i32]] = &[&[1, 2], &[-5, 2147483647], &[-2147483648, -1], &[7, 7]];
-    let one: &[&[i32]] = &[&[3], &[-4], &[100000], &[0]];
     let none: &[&[i32]] = &[&[], &[], &[]];
-    let cases: [(&[u8], &[&[i32]], &[i32]); 6] = [
+    let cases: &[(&[u8], &[&[i32]], &[i32])] = &[
         (
             b"ReactiveInput int a = 0; ReactiveInput int b = 0; ReactiveOutput int o = 0; void main() { o = a + b; EOT; o = a + a + b; EOT; o = a + b + 1; }",
-            sum,
-            &[
-                3,
-                2147483637,
-                2147483648_u32.cast_signed(),
-                2147483648_u32.cast_signed(),
-            ],
+            &[&[1, 2], &[-5, 2147483647], &[-2147483648, -1], &[7, 7]],
+            &[3, 2147483637, -2147483648, -2147483648],
         ),
         (
             b"ReactiveOutput int o = -7; ReactiveInput int a = 9; void main() { EOT; o = o + a; EOT; EOT; }",
-            one,
+            &[&[3], &[-4], &[100000], &[0]],
             &[-7, -11, -11, -11],
         ),
         (
@@ -219,49 +260,37 @@ fn the_machine_does_what_the_program_means(rt: HostRuntime) -> Result<(), Fail> 
             &[4, 16, 16],
         ),
     ];
-    for (source, rows, wanted) in cases {
-        let Some((meant, done)) = both_ways(alloc, source, rows)? else {
-            return Err(Fail::from("not small, or a row of another width"));
-        };
-        let mut outputs = Vec::new(alloc);
-        assert!(rt; meant.len() == rows.len() && done.len() == rows.len());
-        for (m, d) in meant.iter().zip(done.iter()) {
-            assert_eq!(rt; m.items(), d.items());
-            outputs.extend_from_slice(m.items())?;
-        }
-        assert_eq!(rt; outputs.as_slice(), wanted);
+    for (source, rows, outputs) in cases {
+        assert!(rt; both_ways(rt.alloc(), source, rows, outputs)?);
     }
     Ok(())
 }
 
 #[test]
 fn operators_give_their_values(rt: HostRuntime) {
-    let least = i32::MIN;
-    for (op, a, b, value) in [
+    let cases: &[(BinOp, i32, i32, i32)] = &[
         (BinOp::Div, 7, 0, 0),
         (BinOp::Rem, 7, 0, 7),
-        (BinOp::Div, least, -1, least),
-        (BinOp::Rem, least, -1, 0),
+        (BinOp::Div, i32::MIN, -1, i32::MIN),
+        (BinOp::Rem, i32::MIN, -1, 0),
         (BinOp::Div, -7, 2, -3),
         (BinOp::Rem, -7, 2, -1),
         (BinOp::ShiftLeft, 1, 33, 2),
-        (BinOp::ShiftLeft, 1, -1, least),
+        (BinOp::ShiftLeft, 1, -1, i32::MIN),
         (BinOp::ShiftRight, -8, 1, -4),
         (BinOp::ShiftRight, -8, 32, -8),
         (BinOp::Mul, 65536, 65536, 0),
-        (BinOp::Sub, least, 1, 2147483647),
+        (BinOp::Sub, i32::MIN, 1, 2147483647),
         (BinOp::And, 2, 4, 1),
         (BinOp::Or, 0, 0, 0),
-        (BinOp::BitAnd, 6, 3, 2),
-        (BinOp::BitOr, 6, 3, 7),
         (BinOp::BitXor, 6, 3, 5),
-        (BinOp::Less, least, 0, 1),
+        (BinOp::Less, i32::MIN, 0, 1),
         (BinOp::GreaterEqual, 3, 3, 1),
-        (BinOp::NotEqual, 3, 3, 0),
-    ] {
-        assert!(rt; binary(op, a, b) == value);
+    ];
+    for (op, a, b, value) in cases {
+        assert!(rt; binary(*op, *a, *b) == *value);
     }
-    assert!(rt;
-        unary(UnOp::Neg, least) == least && unary(UnOp::Not, 5) == 0 && unary(UnOp::Flip, 0) == -1
-    );
+    assert!(rt; unary(UnOp::Neg, i32::MIN) == i32::MIN);
+    assert!(rt; unary(UnOp::Not, 5) == 0);
+    assert!(rt; unary(UnOp::Flip, 0) == -1);
 }

@@ -58,23 +58,47 @@ fn machine_ticks(alloc: Global, image: &Image, rows: &[Many<i32>]) -> Result<Tic
     Ok(ticks)
 }
 
-/// The outputs of each tick, by the program's meaning and by the machine on the program's image; nothing where the
-/// source isn't small or a row hasn't a number for each input.
+// Whether two lists of ticks are the same.
+fn same_ticks(meant: &[Many<i32>], done: &[Many<i32>]) -> bool {
+    if meant.len() != done.len() {
+        return false;
+    }
+    for (m, d) in meant.iter().zip(done.iter()) {
+        if m.items() != d.items() {
+            return false;
+        }
+    }
+    true
+}
+
+// All words of some ticks, one after another.
+fn flat(alloc: Global, ticks: &[Many<i32>]) -> Result<Vec<i32>, Memory> {
+    let mut all = Vec::new(alloc);
+    for tick in ticks {
+        all.extend_from_slice(tick.items())?;
+    }
+    Ok(all)
+}
+
+/// Whether the program's meaning and the machine's ticks on its image both give these outputs, tick after tick.
+/// Where the source isn't small, or a row hasn't a number for each input, they don't.
 pub fn both_ways(
     alloc: Global,
     source: &[u8],
     rows: &[&[i32]],
-) -> Result<Option<(Ticks, Ticks)>, Memory> {
+    outputs: &[i32],
+) -> Result<bool, Memory> {
     let text = Text::of(alloc, source)?;
     let Some(program) = read_small(alloc, &text)? else {
-        return Ok(None);
+        return Ok(false);
     };
     let width = inputs(alloc, &program)?.len();
     let Some(rows) = rows_of(alloc, rows, width)? else {
-        return Ok(None);
+        return Ok(false);
     };
     let meant = meaning(alloc, &program, &rows)?;
     let image = build(alloc, &program)?;
     let done = machine_ticks(alloc, &image, &rows)?;
-    Ok(Some((meant, done)))
+    let all = flat(alloc, &meant)?;
+    Ok(meant.len() == rows.len() && same_ticks(&meant, &done) && all.as_slice() == outputs)
 }

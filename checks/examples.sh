@@ -3,6 +3,8 @@
 set -u
 top="$(cd "$(dirname "${BASH_SOURCE[0]}")/.." && pwd)"
 program="$top/crates/pretc/out/pretc"
+# the front door builds the program where a gate run has left none
+[ -x "$program" ] || "$top/pretc" >/dev/null </dev/null
 if [ ! -x "$program" ]; then
   echo "the program isn't built: $program"
   exit 1

@@ -129,8 +129,8 @@ fn alike(slots: u32, seed: u32, steps: u32) -> u32
 
 #[test]
 fn a_slow_unit_does_the_same(rt: HostRuntime) -> Result<(), Fail> {
-    assert_eq!(rt; alike(64, 1, 400), 400);
-    assert_eq!(rt; alike(64, 7, 400), 400);
-    assert_eq!(rt; alike(9, 3, 200), 200);
+    assert_eq!(rt; alike(64, 1, 3000), 3000);
+    assert_eq!(rt; alike(64, 7, 2000), 2000);
+    assert_eq!(rt; alike(9, 3, 1000), 1000);
     Ok(())
 }

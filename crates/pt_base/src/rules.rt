@@ -1,3 +1,5 @@
+ghost use Rattle.std.specs.Prelude.{◌≡◌};
+
 /// A rule that a program can break, in the order in which broken rules are looked for.
 /// `docs/language.md` states each of them.
 #[derive(Clone, Copy, Debug, PartialEq, Eq)]
@@ -44,19 +46,25 @@ pub enum Refusal {
 }
 
 impl From<crate::lists::Memory> for Refusal {
-    fn from(_memory: crate::lists::Memory) -> Self {
+    fn from(_memory: crate::lists::Memory) -> Self
+        ensures { result ≡ Refusal.Memory }
+    {
         Refusal::Memory
     }
 }
 
 impl From<std::alloc::AllocError> for Refusal {
-    fn from(_error: std::alloc::AllocError) -> Self {
+    fn from(_error: std::alloc::AllocError) -> Self
+        ensures { result ≡ Refusal.Memory }
+    {
         Refusal::Memory
     }
 }
 
 impl<T: Drop> From<std::alloc::AllocFailed<T>> for Refusal {
-    fn from(_failed: std::alloc::AllocFailed<T>) -> Self {
+    fn from(_failed: std::alloc::AllocFailed<T>) -> Self
+        ensures { result ≡ Refusal.Memory }
+    {
         Refusal::Memory
     }
 }

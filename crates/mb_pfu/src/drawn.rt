@@ -39,18 +39,16 @@ fn is_same(unit: &Unit, plain: &Plain) -> bool {
     unit.next_job() == plain.next_job() && unit.next_test() == plain.next_test()
 }
 
-// The tests of a tick, and its beginning.
-fn new_tick(unit: &mut Unit, plain: &mut Plain, draws: &mut Draws) -> bool {
+// Conditions are tested, until none is due or a draw leaves the others due.
+fn test_some(unit: &mut Unit, plain: &mut Plain, draws: &mut Draws) -> bool {
     unit.begin_tests();
     plain.begin_tests();
-    for _ in 0..512 {
+    for _ in 0..513 {
         if !is_same(unit, plain) {
             return false;
         }
-        if unit.next_test().is_none() {
-            unit.wake();
-            plain.wake();
-            return is_same(unit, plain);
+        if draws.next(50) == 0 || unit.next_test().is_none() {
+            return true;
         }
         let fired = draws.next(3) == 0;
         unit.answer(fired);
@@ -59,12 +57,24 @@ fn new_tick(unit: &mut Unit, plain: &mut Plain, draws: &mut Draws) -> bool {
     false
 }
 
+fn new_tick(unit: &mut Unit, plain: &mut Plain, draws: &mut Draws) -> bool {
+    let same = test_some(unit, plain, draws);
+    unit.wake();
+    plain.wake();
+    same
+}
+
+// The children are mostly the slots that come soon after.
 fn fork(unit: &mut Unit, plain: &mut Plain, s: u32, draws: &mut Draws) -> bool
     requires { IsTrue (is_ready (slot_of s unit.old.tree)) }
 {
-    let starts = [30, 40, 50, 60];
-    let starts = &starts[..draws.next(5) as usize];
-    let lo = draws.next(64);
+    let starts = [30, 40, 50, 60, 70, 80];
+    let starts = &starts[..draws.next(7) as usize];
+    let lo = if draws.next(4) == 0 {
+        draws.next(64)
+    } else {
+        s.wrapping_add(draws.next(6))
+    };
     unit.fork(s, 20, lo, starts) == plain.fork(s, 20, lo, starts)
 }
 
@@ -80,31 +90,77 @@ fn enter(unit: &mut Unit, plain: &mut Plain, s: u32, draws: &mut Draws) -> bool
     unit.enter(s, number, &line) == plain.enter(s, number, &line)
 }
 
+// One call of the links or the counters: mostly one more of them, or mostly one less.
+fn nest(unit: &mut Unit, plain: &mut Plain, rises: bool, draws: &mut Draws) -> bool {
+    let drawn = draws.next(8);
+    if rises && drawn < 2 {
+        let back = draws.next(1000);
+        return unit.call(back) == plain.call(back);
+    }
+    if rises && drawn < 7 {
+        let turns = draws.next(4);
+        return unit.loop_set(turns) == plain.loop_set(turns);
+    }
+    match drawn {
+        0..=2 => unit.ret() == plain.ret(),
+        3..=5 => unit.loop_next() == plain.loop_next(),
+        _ => unit.drop_loop() == plain.drop_loop(),
+    }
+}
+
+// Many such calls: the tables get full, or empty.
+fn nest_often(unit: &mut Unit, plain: &mut Plain, rises: bool, draws: &mut Draws) -> bool {
+    for _ in 0..draws.next(400) {
+        if !nest(unit, plain, rises, draws) {
+            return false;
+        }
+    }
+    true
+}
+
 // One call at a ready slot.
 fn call_at(unit: &mut Unit, plain: &mut Plain, s: u32, draws: &mut Draws) -> bool
     requires { IsTrue (is_ready (slot_of s unit.old.tree)) }
 {
     match draws.next(16) {
-        0..=5 => fork(unit, plain, s, draws),
-        6..=8 => {
+        0..=4 => fork(unit, plain, s, draws),
+        5..=8 => {
             let at = draws.next(1000);
             unit.pause(s, at) == plain.pause(s, at)
         }
-        9..=10 => unit.finish(s) == plain.finish(s),
-        11..=13 => enter(unit, plain, s, draws),
+        9..=11 => unit.finish(s) == plain.finish(s),
+        12..=13 => enter(unit, plain, s, draws),
         14 => unit.leave(s) == plain.leave(s),
-        _ => unit.call(5) == plain.call(),
+        _ => nest(unit, plain, true, draws),
     }
 }
 
-// One call that is drawn, or a new tick where no slot is ready.
-fn step(unit: &mut Unit, plain: &mut Plain, draws: &mut Draws) -> bool {
-    if draws.next(3) == 0 && unit.ret().is_ok() != plain.ret() {
-        return false;
+// The slot that is first ready enters many aborts: its table gets full.
+fn enter_often(unit: &mut Unit, plain: &mut Plain, draws: &mut Draws) -> bool {
+    for _ in 0..draws.next(12) {
+        match unit.next_job() {
+            None => return true,
+            Some(s) => {
+                if !enter(unit, plain, s, draws) {
+                    return false;
+                }
+            }
+        }
     }
-    match unit.next_job() {
-        None => new_tick(unit, plain, draws),
-        Some(s) => call_at(unit, plain, s, draws),
+    true
+}
+
+// Calls that are drawn, also tests in the middle of a tick, or a new tick where no slot is ready.
+fn step(unit: &mut Unit, plain: &mut Plain, draws: &mut Draws) -> bool {
+    match draws.next(64) {
+        0 => nest_often(unit, plain, true, draws),
+        1..=12 => nest_often(unit, plain, false, draws),
+        13 => enter_often(unit, plain, draws),
+        14..=17 => test_some(unit, plain, draws),
+        _ => match unit.next_job() {
+            None => new_tick(unit, plain, draws),
+            Some(s) => call_at(unit, plain, s, draws),
+        },
     }
 }
 
@@ -123,14 +179,19 @@ fn alike(slots: u32, seed: u32, steps: u32) -> u32
         if !is_same(&unit, &plain) {
             return done;
         }
+        if unit.slot(0) == Slot::Ended {
+            unit = Unit::begin(slots, 10);
+            plain = Plain::begin(slots, 10);
+        }
     }
     steps
 }
 
 #[test]
 fn a_slow_unit_does_the_same(rt: HostRuntime) -> Result<(), Fail> {
-    assert_eq!(rt; alike(64, 1, 3000), 3000);
-    assert_eq!(rt; alike(64, 7, 2000), 2000);
-    assert_eq!(rt; alike(9, 3, 1000), 1000);
+    assert_eq!(rt; alike(64, 1, 2000), 2000);
+    assert_eq!(rt; alike(64, 7, 1000), 1000);
+    assert_eq!(rt; alike(20, 5, 2000), 2000);
+    assert_eq!(rt; alike(9, 3, 3000), 3000);
     Ok(())
 }

@@ -1,4 +1,5 @@
-//! A slow unit, by the rules as they are written: each slot with the slot that waits for it.
+//! A slow unit, by the rules as they are written: each slot with the slot that waits for it, and the links and
+//! counters as lists.
 
 ghost use Rattle.std.specs.Prelude.{◌<◌, ◌≤◌, IfSome};
 
@@ -35,7 +36,8 @@ const FREE: PlainSlot = PlainSlot {
 pub(crate) struct Plain {
     slots: [PlainSlot; 64],
     count: u32,
-    links: u32,
+    links: ArrayVec<u32, 16>,
+    counters: ArrayVec<u32, 136>,
 }
 
 impl Plain {
@@ -45,7 +47,8 @@ impl Plain {
         Plain {
             slots,
             count,
-            links: 0,
+            links: ArrayVec::new(),
+            counters: ArrayVec::new(),
         }
     }
 
@@ -55,6 +58,10 @@ impl Plain {
 
     fn at_mut(&mut self, s: u32) -> &mut PlainSlot {
         &mut self.slots[(s % 64) as usize]
+    }
+
+    fn is_nested(&self) -> bool {
+        !self.links.is_empty() || !self.counters.is_empty()
     }
 
     pub(crate) fn state(&self, s: u32) -> Slot {
@@ -209,7 +216,7 @@ impl Plain {
     }
 
     pub(crate) fn pause(&mut self, s: u32, at: u32) -> Result<Option<u32>, TrapKind> {
-        if self.links > 0 {
+        if self.is_nested() {
             return Err(TrapKind::WrongPlace);
         }
         if let Some(handler) = self.relieve(s) {
@@ -221,7 +228,7 @@ impl Plain {
     }
 
     pub(crate) fn finish(&mut self, s: u32) -> Result<(), TrapKind> {
-        if self.links > 0 || self.depth(s) > 0 {
+        if self.is_nested() || self.depth(s) > 0 {
             return Err(TrapKind::WrongPlace);
         }
         self.at_mut(s).state = Slot::Ended;
@@ -237,7 +244,7 @@ impl Plain {
         starts: &[u32],
     ) -> Result<(), TrapKind> {
         let past = lo as usize + starts.len() > self.count as usize;
-        if self.links > 0 || starts.is_empty() || lo <= s || past {
+        if self.is_nested() || starts.is_empty() || lo <= s || past {
             return Err(TrapKind::WrongPlace);
         }
         let mut child = lo;
@@ -263,7 +270,7 @@ impl Plain {
     }
 
     pub(crate) fn enter(&mut self, s: u32, number: u32, line: &AbortParts) -> Result<(), TrapKind> {
-        if self.links > 0 {
+        if self.is_nested() {
             return Err(TrapKind::WrongPlace);
         }
         let slot = self.at_mut(s);
@@ -285,7 +292,7 @@ impl Plain {
     }
 
     pub(crate) fn leave(&mut self, s: u32) -> Result<(), TrapKind> {
-        if self.links > 0 {
+        if self.is_nested() {
             return Err(TrapKind::WrongPlace);
         }
         let slot = self.at_mut(s);
@@ -296,20 +303,36 @@ impl Plain {
         Ok(())
     }
 
-    pub(crate) fn call(&mut self) -> Result<(), TrapKind> {
-        if self.links >= 16 {
-            return Err(TrapKind::TableFull);
+    pub(crate) fn call(&mut self, back: u32) -> Result<(), TrapKind> {
+        match self.links.try_push(back) {
+            Ok(()) => Ok(()),
+            Err(_) => Err(TrapKind::TableFull),
         }
-        self.links += 1;
-        Ok(())
     }
 
-    pub(crate) fn ret(&mut self) -> bool {
-        if self.links == 0 {
-            return false;
+    pub(crate) fn ret(&mut self) -> Result<u32, TrapKind> {
+        self.links.pop().ok_or(TrapKind::TableEmpty)
+    }
+
+    pub(crate) fn loop_set(&mut self, turns: u32) -> Result<(), TrapKind> {
+        match self.counters.try_push(turns) {
+            Ok(()) => Ok(()),
+            Err(_) => Err(TrapKind::TableFull),
         }
-        self.links -= 1;
-        true
+    }
+
+    pub(crate) fn loop_next(&mut self) -> Result<bool, TrapKind> {
+        let turns = self.counters.pop().ok_or(TrapKind::TableEmpty)?;
+        if turns == 0 {
+            return Ok(false);
+        }
+        self.loop_set(turns - 1)?;
+        Ok(true)
+    }
+
+    pub(crate) fn drop_loop(&mut self) -> Result<(), TrapKind> {
+        let _ = self.counters.pop().ok_or(TrapKind::TableEmpty)?;
+        Ok(())
     }
 
     pub(crate) fn begin_tests(&mut self) {

@@ -131,6 +131,32 @@ fn a_strong_abort_drops_the_tests_below(rt: HostRuntime) -> Result<(), Fail> {
 }
 
 #[test]
+fn groups_three_deep_begin_again_in_the_same_tick(rt: HostRuntime) -> Result<(), Fail> {
+    let mut unit = Unit::begin(4, 10);
+    assert!(rt; enter_next(&mut unit, true, 90).is_ok());
+    for lo in 1..4 {
+        assert!(rt; fork_next(&mut unit, 20, lo, &[30]).is_ok());
+    }
+    assert_eq!(rt; pause_next(&mut unit, 31), Some(3));
+    unit.begin_tests();
+    assert_eq!(rt; answer_next(&mut unit, true), Some((0, 0)));
+    unit.wake();
+    assert_eq!(rt; pause_next(&mut unit, 33), Some(3));
+    assert_eq!(rt; unit.slot(0), Slot::Ready(90));
+    assert_eq!(rt; unit.slot(3), Slot::Free);
+    for lo in 1..4 {
+        assert!(rt; fork_next(&mut unit, 91, lo, &[50]).is_ok());
+    }
+    for last in [3, 2, 1] {
+        assert_eq!(rt; finish_next(&mut unit), Some(last));
+    }
+    assert_eq!(rt; unit.slot(0), Slot::Ready(92));
+    assert!(rt; fork_next(&mut unit, 93, 1, &[60]).is_ok());
+    assert_eq!(rt; unit.slot(1), Slot::Ready(60));
+    Ok(())
+}
+
+#[test]
 fn all_slots_end(rt: HostRuntime) -> Result<(), Fail> {
     let mut unit = Unit::begin(64, 10);
     assert!(rt; fork_next(&mut unit, 20, 1, &[30; 63]).is_ok());

@@ -3,3 +3,4 @@ pub mod Report
 pub mod Rows
 pub mod Scan
 pub mod Trace
+pub mod Verdict

@@ -31,6 +31,16 @@ impl LineBuffer {
         }
     }
 
+    /// A buffer of these bytes. It takes no memory.
+    pub fn of(bytes: &[u8]) -> LineBuffer
+        requires { length bytes.now ≤ 1024 }
+        ensures { result ≡ bytes.now }
+    {
+        let mut line = LineBuffer::empty();
+        line.push_bytes(bytes);
+        line
+    }
+
     /// The bytes.
     pub fn bytes(&self) -> &[u8]
         ensures { result.now ≡ self.now }
@@ -38,13 +48,13 @@ impl LineBuffer {
         self.bytes.as_slice()
     }
 
-    fn clear(&mut self)
+    pub(crate) fn clear(&mut self)
         ensures { self.new ≡ [] }
     {
         self.bytes.clear();
     }
 
-    fn push_bytes(&mut self, bytes: &[u8])
+    pub(crate) fn push_bytes(&mut self, bytes: &[u8])
         requires { length self.old + length bytes.now ≤ 1024 }
         ensures { self.new ≡ self.old ++ bytes.now }
     {
@@ -59,7 +69,7 @@ impl LineBuffer {
     }
 
     // The digits of a number that has room.
-    fn push_digits(&mut self, n: u64)
+    fn push_digits(&mut self, n: u128)
         requires { length self.old + length (decimal n) ≤ 1024 }
         ensures { self.new ≡ self.old ++ decimal n }
     {
@@ -71,10 +81,18 @@ impl LineBuffer {
         self.push_byte(b'0' + (n % 10) as u8);
     }
 
-    fn push_decimal(&mut self, n: u64)
+    pub(crate) fn push_decimal(&mut self, n: u64)
         requires { length self.old + 20 ≤ 1024 }
         ensures text { self.new ≡ self.old ++ decimal n }
         ensures room { length self.new ≤ length self.old + 20 }
+    {
+        self.push_digits(n as u128);
+    }
+
+    pub(crate) fn push_wide(&mut self, n: u128)
+        requires { length self.old + 39 ≤ 1024 }
+        ensures text { self.new ≡ self.old ++ decimal n }
+        ensures room { length self.new ≤ length self.old + 39 }
     {
         self.push_digits(n);
     }
@@ -84,7 +102,7 @@ impl LineBuffer {
         ensures text { self.new ≡ self.old ++ signed_decimal value }
         ensures room { length self.new ≤ length self.old + 11 }
     {
-        let size = value.unsigned_abs() as u64;
+        let size = value.unsigned_abs() as u128;
         if value < 0 {
             self.push_byte(b'-');
             self.push_digits(size);

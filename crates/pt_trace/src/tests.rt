@@ -1,6 +1,6 @@
 use crate::{
-    BadLine, Ending, LineBuffer, Rows, bound_line, pull_all, read_rows, report_line, ticks_line,
-    worst_line,
+    BadLine, Ending, LineBuffer, Rows, bound_line, cert_line, image_line, no_line, pull_all,
+    read_rows, report_line, ticks_line, worst_line, yes_line,
 };
 use pt_base::{Many, Text};
 use pt_outside::MemSource;
@@ -127,5 +127,29 @@ fn inputs_pulled_whole(rt: HostRuntime) -> Result<(), Fail> {
             "{most}"
         );
     }
+    Ok(())
+}
+
+#[test]
+fn check_lines(rt: HostRuntime) -> Result<(), Fail> {
+    let mut line = LineBuffer::empty();
+    yes_line(14, true, &mut line);
+    assert_eq!(rt; line.bytes(), b"yes bound 14 reached\n".as_slice());
+    yes_line(0, false, &mut line);
+    assert_eq!(rt; line.bytes(), b"yes bound 0\n".as_slice());
+    no_line(7, 0, 0, 14, Some(13), &mut line);
+    assert_eq!(rt;
+        line.bytes(),
+        b"no A7 at 0 level 0 needed 14 given 13\n".as_slice()
+    );
+    no_line(3, 65535, 8, u128::MAX, None, &mut line);
+    assert_eq!(rt;
+        line.bytes(),
+        b"no A3 at 65535 level 8 needed 340282366920938463463374607431768211455 given -\n".as_slice()
+    );
+    image_line(10, &mut line);
+    assert_eq!(rt; line.bytes(), b"image I10\n".as_slice());
+    cert_line(7, &mut line);
+    assert_eq!(rt; line.bytes(), b"cert K7\n".as_slice());
     Ok(())
 }

@@ -51,6 +51,32 @@ expect 12 wanted "a bad line"; [ -e im3 ] || wrong "a bad line: no image"
 head -c 1048577 /dev/zero | tr '\0' ' ' >long.pc
 line "not built"; "$program" go long.pc im4 </dev/null >out; status=$?
 expect 12 wanted "a source of 1,048,577 bytes"
+# check: the counter's certificate, and what is refused; the files stay as they were
+image="$top/examples/counter.im"; cert="$top/examples/counter.cert"
+line "yes bound 8 reached"; "$program" check "$image" "$cert" - </dev/null >out; status=$?
+expect 0 wanted "the counter's certificate"
+sed 's/^bound 8$/bound 9/' "$cert" >wide; line "yes bound 9"; "$program" check "$image" wide - </dev/null >out; status=$?
+expect 0 wanted "a wider bound"
+sed 's/^bound 8$/bound 7/' "$cert" >narrow; line "no A7 at 0 level 0 needed 8 given 7"; "$program" check "$image" narrow - </dev/null >out; status=$?
+expect 9 wanted "a bound that is too small"
+sed 's/^T 0 0 0 4 -$/T 0 0 0 3 -/' "$cert" >low; line "no A3 at 0 level 0 needed 4 given 3"; "$program" check "$image" low - </dev/null >out; status=$?
+expect 9 wanted "a number that is too small"
+head -c -1 "$cert" >short; line "cert K6"; "$program" check "$image" short - </dev/null >out; status=$?
+expect 8 wanted "a certificate without its last byte"
+(cat "$cert"; echo) >long; line "cert K7"; "$program" check "$image" long - </dev/null >out; status=$?
+expect 8 wanted "a certificate with one byte more"
+(cat "$image"; echo) >longim; line "image I10"; "$program" check longim "$cert" - </dev/null >out; status=$?
+expect 8 wanted "an image with one byte more"
+sed 's/^30630001$/ffffffff/' "$image" >odd; cp odd kept; line "not built"; "$program" check odd "$cert" - </dev/null >out; status=$?
+expect 12 wanted "a word that isn't plain"; cmp -s odd kept || wrong "a word that isn't plain: the image changed"
+line "not built"; "$program" check "$image" "$cert" costs </dev/null >out; status=$?
+expect 12 wanted "a table of costs"
+line "no file"; "$program" check missing "$cert" - </dev/null >out; status=$?
+expect 17 wanted "a missing image"
+line "no file"; "$program" check "$image" missing - </dev/null >out; status=$?
+expect 17 wanted "a missing certificate"
+line "read fault"; "$program" check folder "$cert" - </dev/null >out; status=$?
+expect 3 wanted "a folder in place of the image"
 printf '4\n5\n' >trace
 if [ -e /dev/full ]; then
   "$program" go "$first" im5 <trace >/dev/full; status=$?

@@ -82,7 +82,9 @@ fn other_words_are_a_usage_fault(rt: HostRuntime) -> Result<(), Fail> {
         &["go", "p", "p"],
         &["go", "p", "im", "x"],
         &["gone", "p", "im"],
-        &["check", "im", "ce", "-"],
+        &["check", "im", "ce"],
+        &["check", "im", "ce", "-", "x"],
+        &["checks", "im", "ce", "-"],
         &["run", "p", "-", "im", "ce"],
     ];
     for words in cases {

@@ -2,64 +2,81 @@
 use Rattle.std.proofs.Common.{◌≡◌, ◌⊎◌, inl, inr, ℕ, List, Option, Some, None, refl, sym, subst, ◌∙◌, ⊎_elim, arith}
 use Rattle.pt_outside.specs.Counts.{Rose}
 use Rattle.pretc_top.specs.declared.statuses.Status.{Status}
-use Rattle.pretc_top.specs.declared.statuses.Status.TheVariants.{Done, Usage, ReadFault, WriteFault, WantOfMemory, StoreFault, NotBuilt, NoFile}
-use Rattle.pretc_top.specs.Commands.{Command, Go, command_of, number_of}
-use Rattle.pretc_top.specs.Go.{Outside, Written, CommandEnds, UsageEnds, Answers, whole, failed, Comes}
-use Rattle.pretc_top.specs.Causes.{LacksProgram}
+use Rattle.pretc_top.specs.declared.statuses.Status.TheVariants.{Done, Usage, ReadFault, WriteFault, WantOfMemory, BadForm, NotAccepted, StoreFault, NotBuilt, NoFile}
+use Rattle.pretc_top.specs.Commands.{Command, Go, Check, command_of, number_of}
+use Rattle.pretc_top.specs.Go.{Outside, Written, UsageEnds, Answers, whole, failed}
+use Rattle.pretc_top.specs.Comes.{CommandEnds, Comes}
+use Rattle.pretc_top.specs.Causes.{LacksFile, BoundHolds}
+use Rattle.pretc_top.proofs.CheckCausing.{check_read, check_lacks, check_number, check_bound}
 
 read_ends : (command : Option Command) (status : Status) (old new : Outside) (due : List ℕ) → number_of status ≡ 3 → CommandEnds command status old new due
     → Rose old.load_faults new.load_faults ⊎ Rose old.source_faults new.source_faults
+read_ends (Some (Check image cert costs)) status old new due e h = inl (check_read status image cert costs old.files old.load_faults new.load_faults due e h.case)
 read_ends command Done old new due e h = absurd (omega arith)
 read_ends command Usage old new due e h = absurd (omega arith)
 read_ends None ReadFault old new due e h = absurd h
 read_ends (Some (Go program name)) ReadFault old new due e h = ⊎_elim (λ l. inl l.cause) (λ p. inr p.cause) h.1
 read_ends command WriteFault old new due e h = absurd (omega arith)
 read_ends command WantOfMemory old new due e h = absurd (omega arith)
+read_ends command BadForm old new due e h = absurd (omega arith)
+read_ends command NotAccepted old new due e h = absurd (omega arith)
 read_ends command StoreFault old new due e h = absurd (omega arith)
 read_ends command NotBuilt old new due e h = absurd (omega arith)
 read_ends command NoFile old new due e h = absurd (omega arith)
 
 store_ends : (command : Option Command) (status : Status) (old new : Outside) (due : List ℕ) → number_of status ≡ 11 → CommandEnds command status old new due
     → Rose old.store_faults new.store_faults
+store_ends (Some (Check image cert costs)) status old new due e h = absurd (check_number status image cert costs old.files old.load_faults new.load_faults due 11 e h.case (λ h. omega (arith, h)) (λ h. omega (arith, h)) (λ h. omega (arith, h)) (λ h. omega (arith, h)) (λ h. omega (arith, h)) (λ h. omega (arith, h)) (λ h. omega (arith, h)))
 store_ends command Done old new due e h = absurd (omega arith)
 store_ends command Usage old new due e h = absurd (omega arith)
 store_ends command ReadFault old new due e h = absurd (omega arith)
 store_ends command WriteFault old new due e h = absurd (omega arith)
 store_ends command WantOfMemory old new due e h = absurd (omega arith)
+store_ends command BadForm old new due e h = absurd (omega arith)
+store_ends command NotAccepted old new due e h = absurd (omega arith)
 store_ends None StoreFault old new due e h = absurd h
 store_ends (Some (Go program name)) StoreFault old new due e h = h.1.cause
 store_ends command NotBuilt old new due e h = absurd (omega arith)
 store_ends command NoFile old new due e h = absurd (omega arith)
 
 write_ends : (command : Option Command) (status : Status) (old new : Outside) (due : List ℕ) → number_of status ≡ 4 → CommandEnds command status old new due → ⊥
+write_ends (Some (Check image cert costs)) status old new due e h = absurd (check_number status image cert costs old.files old.load_faults new.load_faults due 4 e h.case (λ h. omega (arith, h)) (λ h. omega (arith, h)) (λ h. omega (arith, h)) (λ h. omega (arith, h)) (λ h. omega (arith, h)) (λ h. omega (arith, h)) (λ h. omega (arith, h)))
 write_ends command Done old new due e h = absurd (omega arith)
 write_ends command Usage old new due e h = absurd (omega arith)
 write_ends command ReadFault old new due e h = absurd (omega arith)
 write_ends None WriteFault old new due e h = h
 write_ends (Some (Go program name)) WriteFault old new due e h = h
 write_ends command WantOfMemory old new due e h = absurd (omega arith)
+write_ends command BadForm old new due e h = absurd (omega arith)
+write_ends command NotAccepted old new due e h = absurd (omega arith)
 write_ends command StoreFault old new due e h = absurd (omega arith)
 write_ends command NotBuilt old new due e h = absurd (omega arith)
 write_ends command NoFile old new due e h = absurd (omega arith)
 
-no_file_ends : (command : Option Command) (status : Status) (old new : Outside) (due : List ℕ) → number_of status ≡ 17 → CommandEnds command status old new due → LacksProgram command old
+no_file_ends : (command : Option Command) (status : Status) (old new : Outside) (due : List ℕ) → number_of status ≡ 17 → CommandEnds command status old new due → LacksFile command old.files
+no_file_ends (Some (Check image cert costs)) status old new due e h = check_lacks status image cert costs old.files old.load_faults new.load_faults due e h.case
 no_file_ends command Done old new due e h = absurd (omega arith)
 no_file_ends command Usage old new due e h = absurd (omega arith)
 no_file_ends command ReadFault old new due e h = absurd (omega arith)
 no_file_ends command WriteFault old new due e h = absurd (omega arith)
 no_file_ends command WantOfMemory old new due e h = absurd (omega arith)
+no_file_ends command BadForm old new due e h = absurd (omega arith)
+no_file_ends command NotAccepted old new due e h = absurd (omega arith)
 no_file_ends command StoreFault old new due e h = absurd (omega arith)
 no_file_ends command NotBuilt old new due e h = absurd (omega arith)
 no_file_ends None NoFile old new due e h = absurd h
 no_file_ends (Some (Go program name)) NoFile old new due e h = h.1
 
 usage_ends : (command : Option Command) (status : Status) (old new : Outside) (due : List ℕ) → number_of status ≡ 2 → CommandEnds command status old new due → command ≡ None
+usage_ends (Some (Check image cert costs)) status old new due e h = absurd (check_number status image cert costs old.files old.load_faults new.load_faults due 2 e h.case (λ h. omega (arith, h)) (λ h. omega (arith, h)) (λ h. omega (arith, h)) (λ h. omega (arith, h)) (λ h. omega (arith, h)) (λ h. omega (arith, h)) (λ h. omega (arith, h)))
 usage_ends command Done old new due e h = absurd (omega arith)
 usage_ends None Usage old new due e h = refl
 usage_ends (Some (Go program name)) Usage old new due e h = absurd h
 usage_ends command ReadFault old new due e h = absurd (omega arith)
 usage_ends command WriteFault old new due e h = absurd (omega arith)
 usage_ends command WantOfMemory old new due e h = absurd (omega arith)
+usage_ends command BadForm old new due e h = absurd (omega arith)
+usage_ends command NotAccepted old new due e h = absurd (omega arith)
 usage_ends command StoreFault old new due e h = absurd (omega arith)
 usage_ends command NotBuilt old new due e h = absurd (omega arith)
 usage_ends command NoFile old new due e h = absurd (omega arith)
@@ -70,9 +87,25 @@ none_ends Usage old new due h = refl
 none_ends ReadFault old new due h = absurd h
 none_ends WriteFault old new due h = absurd h
 none_ends WantOfMemory old new due h = absurd h
+none_ends BadForm old new due h = absurd h
+none_ends NotAccepted old new due h = absurd h
 none_ends StoreFault old new due h = absurd h
 none_ends NotBuilt old new due h = absurd h
 none_ends NoFile old new due h = absurd h
+
+bound_ends : (command : Option Command) (status : Status) (old new : Outside) (due : List ℕ) → number_of status ≡ 0 → CommandEnds command status old new due → BoundHolds command old.files
+bound_ends (Some (Check image cert costs)) status old new due e h = check_bound status image cert costs old.files old.load_faults new.load_faults due e h.case
+bound_ends (Some (Go program name)) status old new due e h = tt
+bound_ends None Done old new due e h = absurd h
+bound_ends None Usage old new due e h = absurd (omega arith)
+bound_ends None ReadFault old new due e h = absurd h
+bound_ends None WriteFault old new due e h = absurd h
+bound_ends None WantOfMemory old new due e h = absurd h
+bound_ends None BadForm old new due e h = absurd h
+bound_ends None NotAccepted old new due e h = absurd h
+bound_ends None StoreFault old new due e h = absurd h
+bound_ends None NotBuilt old new due e h = absurd h
+bound_ends None NoFile old new due e h = absurd h
 
 -- the answer is the status's number, or a push or flush failed
 by_answer : (status : Status) (due : List ℕ) (before after : Written) (answer : ℕ) → Answers status due before after answer
@@ -93,7 +126,7 @@ pub write_fault : (words : List (List ℕ)) (old new : Outside) (before after : 
 write_fault words old new before after answer c e =
     ⊎_elim (λ h. absurd (write_ends (command_of words) c.status old new c.due (sym h ∙ e) c.ends)) (λ h. h.1) (by_answer c.status c.due before after answer c.answers)
 
-pub no_file : (words : List (List ℕ)) (old new : Outside) (before after : Written) (answer : ℕ) → Comes words old new before after answer → answer ≡ 17 → LacksProgram (command_of words) old
+pub no_file : (words : List (List ℕ)) (old new : Outside) (before after : Written) (answer : ℕ) → Comes words old new before after answer → answer ≡ 17 → LacksFile (command_of words) old.files
 no_file words old new before after answer c e =
     ⊎_elim (λ h. no_file_ends (command_of words) c.status old new c.due (sym h ∙ e) c.ends) (λ h. let f = h.0 in absurd (omega arith)) (by_answer c.status c.due before after answer c.answers)
 
@@ -105,3 +138,7 @@ pub usage_comes : (words : List (List ℕ)) (old new : Outside) (before after : 
 usage_comes words old new before after answer c none =
     let P : Option Command → Type 0 = λ command. CommandEnds command c.status old new c.due in
     ⊎_elim (λ h. inl (h ∙ none_ends c.status old new c.due (subst P none c.ends))) (λ h. inr h.0) (by_answer c.status c.due before after answer c.answers)
+
+pub bound : (words : List (List ℕ)) (old new : Outside) (before after : Written) (answer : ℕ) → Comes words old new before after answer → answer ≡ 0 → BoundHolds (command_of words) old.files
+bound words old new before after answer c e =
+    ⊎_elim (λ h. bound_ends (command_of words) c.status old new c.due (sym h ∙ e) c.ends) (λ h. let f = h.0 in absurd (omega arith)) (by_answer c.status c.due before after answer c.answers)

@@ -1,8 +1,12 @@
 pub mod Fronts
 pub mod Ticking
 pub mod Answering
+pub mod Loading
+pub mod Judging
+pub mod Called
 pub mod Preparing
 pub mod RowsFit
 pub mod Meant
 pub mod Readied
+pub mod CheckCausing
 pub mod Causing

@@ -5,7 +5,7 @@ use Rattle.pt_outside.specs.Files.{Files, KeepsFiles, Stores}
 use Rattle.pt_image.specs.declared.image.Parts.{Parts}
 use Rattle.pt_image.specs.Text.{text_of}
 use Rattle.pretc_top.specs.declared.statuses.Status.{Status}
-use Rattle.pretc_top.specs.declared.statuses.Status.TheVariants.{Done, Usage, ReadFault, WriteFault, WantOfMemory, StoreFault, NotBuilt, NoFile}
+use Rattle.pretc_top.specs.declared.statuses.Status.TheVariants.{Done, Usage, ReadFault, WriteFault, WantOfMemory, BadForm, NotAccepted, StoreFault, NotBuilt, NoFile}
 use Rattle.pretc_top.specs.Commands.{line_of}
 use Rattle.pretc_top.specs.Go.{Outside, IsBuilt, IsStored, GoEnds}
 use Rattle.pretc_top.specs.Stages.{TraceFails}
@@ -29,6 +29,8 @@ trace_ends Usage program name image old new s f = absurd f
 trace_ends ReadFault program name image old new s f = (refl, inr (record { cause = f; image = image; stored = s }))
 trace_ends WriteFault program name image old new s f = absurd f
 trace_ends WantOfMemory program name image old new s f = (refl, inr (image, s))
+trace_ends BadForm program name image old new s f = absurd f
+trace_ends NotAccepted program name image old new s f = absurd f
 trace_ends StoreFault program name image old new s f = absurd f
 trace_ends NotBuilt program name image old new s f = (refl, inr (record { image = image; stored = s; trace = f }))
 trace_ends NoFile program name image old new s f = absurd f

@@ -1,5 +1,5 @@
 -- What a call of `pretc go` comes to: docs/commands.md.
-use Rattle.std.specs.Prelude.{◌≡◌, ◌⊎◌, ℕ, ℤ, ◌≤◌, List, map, length, Option, Some, None, IsSome}
+use Rattle.std.specs.Prelude.{◌≡◌, ◌⊎◌, ℕ, ℤ, ◌≤◌, List, map, length, Option, None, IsSome}
 use Rattle.std.specs.Io.KnownBytes.{Appends, IsAtEnd}
 use Rattle.pt_outside.specs.Counts.{Rose}
 use Rattle.pt_outside.specs.Files.{Files, KeepsFiles, Stores, Tears, Holds, Lacks, AppendsFront}
@@ -15,8 +15,8 @@ use Rattle.pc_small.specs.Spelling.{Spells}
 use Rattle.pc_meaning.specs.Meaning.{meaning_of}
 use Rattle.pc_compile.specs.Compiled.{Compiles}
 use Rattle.pretc_top.specs.declared.statuses.Status.{Status}
-use Rattle.pretc_top.specs.declared.statuses.Status.TheVariants.{Done, Usage, ReadFault, WriteFault, WantOfMemory, StoreFault, NotBuilt, NoFile}
-use Rattle.pretc_top.specs.Commands.{Command, Go, command_of, number_of, line_of}
+use Rattle.pretc_top.specs.declared.statuses.Status.TheVariants.{Done, Usage, ReadFault, WriteFault, WantOfMemory, BadForm, NotAccepted, StoreFault, NotBuilt, NoFile}
+use Rattle.pretc_top.specs.Commands.{number_of, line_of}
 use Rattle.pretc_top.specs.Told.{told}
 
 -- the shelf and the source, as they tell of themselves
@@ -136,6 +136,8 @@ GoEnds Usage program name old new due = ⊥
 GoEnds ReadFault program name old new due = (due ≡ line_of ReadFault) × (IsFailedLoad old new ⊎ IsFailedPull program name old new)
 GoEnds WriteFault program name old new due = ⊥
 GoEnds WantOfMemory program name old new due = (due ≡ line_of WantOfMemory) × IsWant program name old new
+GoEnds BadForm program name old new due = ⊥
+GoEnds NotAccepted program name old new due = ⊥
 GoEnds StoreFault program name old new due = (due ≡ line_of StoreFault) × IsFailedStore program name old new
 GoEnds NotBuilt program name old new due = (due ≡ line_of NotBuilt) × (IsNotSmall program old new ⊎ IsRefusedTrace program name old new)
 GoEnds NoFile program name old new due = (due ≡ line_of NoFile) × Lacks old.files program × KeepsFiles old.files new.files × (new.left ≡ old.left)
@@ -155,13 +157,11 @@ UsageEnds Usage old new due = IsUsage old new due
 UsageEnds ReadFault old new due = ⊥
 UsageEnds WriteFault old new due = ⊥
 UsageEnds WantOfMemory old new due = ⊥
+UsageEnds BadForm old new due = ⊥
+UsageEnds NotAccepted old new due = ⊥
 UsageEnds StoreFault old new due = ⊥
 UsageEnds NotBuilt old new due = ⊥
 UsageEnds NoFile old new due = ⊥
-
-abbrev pub CommandEnds : Option Command → Status → Outside → Outside → List ℕ → Type 0
-CommandEnds None status old new due = UsageEnds status old new due
-CommandEnds (Some (Go program name)) status old new due = GoEnds status program name old new due
 
 -- the status is answered with the text that is due; or a push or flush failed, and a front of that text was written
 pub data Answers (status : Status) (due : List ℕ) (before after : Written) (answer : ℕ) : Type 0 where
@@ -173,11 +173,4 @@ pub record GoComes (program name : List ℕ) (old new : Outside) (before after :
   pub status : Status
   pub due : List ℕ
   pub ends : GoEnds status program name old new due
-  pub answers : Answers status due before after answer
-
--- what a call with these words comes to
-pub record Comes (words : List (List ℕ)) (old new : Outside) (before after : Written) (answer : ℕ) : Type 0 where
-  pub status : Status
-  pub due : List ℕ
-  pub ends : CommandEnds (command_of words) status old new due
   pub answers : Answers status due before after answer

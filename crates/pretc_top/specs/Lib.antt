@@ -2,6 +2,9 @@ pub mod Commands
 pub mod Told
 pub mod Reported
 pub mod Go
+pub mod Check
+pub mod Comes
 pub mod Stages
 pub mod Readying
 pub mod Causes
+pub mod Calls

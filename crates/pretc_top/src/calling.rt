@@ -1,23 +1,41 @@
-ghost use Rattle.std.specs.Prelude.{◌≡◌, ◌≢◌, ◌≤◌, ◌⊎◌, ℕ, List, Some, None, MatchOption, map};
-ghost use Rattle.pretc_top.specs.Commands.{Go, command_of};
+ghost use Rattle.std.specs.Prelude.{◌≡◌, ◌≢◌, ◌≤◌, ◌⊎◌, ℕ, List, Some, None, map};
+ghost use Rattle.pretc_top.specs.Commands.{Go, Check, command_of};
 ghost use Rattle.pt_outside.specs.Counts.{Rose};
-ghost use Rattle.pretc_top.specs.Go.{Comes, outside, written_is};
-ghost use Rattle.pretc_top.specs.Causes.{LacksProgram};
+ghost use Rattle.pretc_top.specs.Calls.{IsCall};
+ghost use Rattle.pretc_top.specs.Comes.{Comes};
+ghost use Rattle.pretc_top.specs.Go.{outside, written_is};
+ghost use Rattle.pretc_top.specs.Causes.{LacksFile, BoundHolds};
 
-use crate::going::{finish, go};
+use crate::checking::check_files;
+use crate::ending::finish;
+use crate::going::go;
 use crate::statuses::Status;
 use pt_base::Text;
 use pt_outside::{Shelf, Sink, Source};
 use std::alloc::Global;
 
-// The names that `go` is given, where the words are such a call.
-fn go_names(words: &[Text]) -> Option<(&Text, &Text)>
-    ensures { MatchOption result (command_of words.now ≡ None) (λ names. command_of words.now ≡ Some (Go names.0.now names.1.now)) }
+// A command, with the names that it is given.
+#[derive(Clone, Copy)]
+enum Call<'a> {
+    Go(&'a Text, &'a Text),
+    Check(&'a Text, &'a Text, &'a Text),
+}
+
+// The command that the words are, if they are one.
+fn call_of(words: &[Text]) -> Option<Call<'_>>
+    ensures { IsCall result (command_of words.now) }
 {
     match words {
         [verb, program, name] => {
             if verb.bytes() == b"go".as_slice() && program.bytes() != name.bytes() {
-                Some((program, name))
+                Some(Call::Go(program, name))
+            } else {
+                None
+            }
+        }
+        [verb, image, cert, costs] => {
+            if verb.bytes() == b"check".as_slice() {
+                Some(Call::Check(image, cert, costs))
             } else {
                 None
             }
@@ -40,9 +58,10 @@ fn called<H: Shelf, I: Source, O: Sink>(
     ensures source_faults { I.faults input.old ≤ I.faults input.new }
     ensures sink_faults { O.faults out.old ≤ O.faults out.new }
 {
-    match go_names(words) {
+    match call_of(words) {
         None => finish(Status::Usage, out),
-        Some((program, name)) => go(alloc, program, name, shelf, input, out),
+        Some(Call::Go(program, name)) => go(alloc, program, name, shelf, input, out),
+        Some(Call::Check(image, cert, costs)) => check_files(alloc, image, cert, costs, shelf, out),
     }
 }
 
@@ -60,7 +79,8 @@ pub fn pretc<H: Shelf, I: Source, O: Sink>(
     ensures comes { Comes words.now.items (outside (H.files shelf.old) (H.load_faults shelf.old) (H.store_faults shelf.old) (I.left input.old) (I.faults input.old)) (outside (H.files shelf.new) (H.load_faults shelf.new) (H.store_faults shelf.new) (I.left input.new) (I.faults input.new)) (written_is (O.written out.old) (O.faults out.old)) (written_is (O.written out.new) (O.faults out.new)) result }
     ensures usage { result ≡ 2 → command_of words.now.items ≡ None }
     ensures usage_comes { command_of words.now.items ≡ None → (result ≡ 2) ⊎ (result ≡ 4) }
-    ensures no_file { result ≡ 17 → LacksProgram (command_of words.now.items) (outside (H.files shelf.old) (H.load_faults shelf.old) (H.store_faults shelf.old) (I.left input.old) (I.faults input.old)) }
+    ensures bound { result ≡ 0 → BoundHolds (command_of words.now.items) (H.files shelf.old) }
+    ensures no_file { result ≡ 17 → LacksFile (command_of words.now.items) (H.files shelf.old) }
     ensures read_fault { result ≡ 3 → Rose (H.load_faults shelf.old) (H.load_faults shelf.new) ⊎ Rose (I.faults input.old) (I.faults input.new) }
     ensures write_fault { result ≡ 4 → Rose (O.faults out.old) (O.faults out.new) }
     ensures store_fault { result ≡ 11 → Rose (H.store_faults shelf.old) (H.store_faults shelf.new) }

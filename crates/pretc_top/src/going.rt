@@ -8,6 +8,7 @@ ghost use Rattle.mb_isa.specs.Costs.{unit};
 ghost use Rattle.mb_core.specs.Plain.{IsPlain};
 ghost use Rattle.mb_core.specs.Machine.{fresh};
 
+use crate::ending::{close, finish};
 use crate::reporting::write_report;
 use crate::stages::{load_image, read_trace, store_image};
 use crate::statuses::Status;
@@ -20,28 +21,6 @@ use std::alloc::Global;
 
 // The cycles that a tick may take.
 const CYCLES_MOST: u64 = 1000000000000;
-
-// The end of a call, once its text is written.
-fn close<O: Sink>(status: Status, out: &mut O) -> u8
-    ensures answers { Answers status [] (written_is (O.written out.old) (O.faults out.old)) (written_is (O.written out.new) (O.faults out.new)) result }
-    ensures faults { O.faults out.old ≤ O.faults out.new }
-{
-    if out.flush().is_err() {
-        return 4;
-    }
-    status.number()
-}
-
-/// The end of a call that has nothing to print but the line of its status.
-pub fn finish<O: Sink>(status: Status, out: &mut O) -> u8
-    ensures answers { Answers status (line_of status) (written_is (O.written out.old) (O.faults out.old)) (written_is (O.written out.new) (O.faults out.new)) result }
-    ensures faults { O.faults out.old ≤ O.faults out.new }
-{
-    match out.push(status.line()) {
-        Ok(()) => close(status, out),
-        Err(_) => 4,
-    }
-}
 
 // A loaded machine with the rows of its ticks, and places for its outputs.
 #[derive(Drop)]

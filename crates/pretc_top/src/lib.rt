@@ -2,6 +2,8 @@
 #![tactic(auto)]
 
 mod calling;
+mod checking;
+mod ending;
 mod going;
 mod reporting;
 mod stages;

@@ -1,8 +1,8 @@
 ghost use Rattle.std.specs.Prelude.{◌≡◌, ◌≤◌, ℕ, List, All, IfOk, IfErr, OnOk, length};
-ghost use Rattle.pt_outside.specs.Files.{KeepsFiles, Stores};
+ghost use Rattle.pt_outside.specs.Files.{KeepsFiles, Stores, Holds};
 ghost use Rattle.pt_image.specs.Text.{text_of};
 ghost use Rattle.pretc_top.specs.Go.{IsBuilt, IsRead};
-ghost use Rattle.pretc_top.specs.Stages.{LoadFails, StoreFails, TraceFails};
+ghost use Rattle.pretc_top.specs.Stages.{FileFails, LoadFails, StoreFails, TraceFails};
 
 use crate::statuses::Status;
 use pc_compile::compile;
@@ -18,6 +18,27 @@ const SOURCE_MOST: u64 = 1048577;
 // The bytes that a trace may have.
 const TRACE_MOST: usize = 1048576;
 
+/// Loads the first bytes of a file, at most so many.
+pub fn load_text<H: Shelf>(
+    alloc: Global,
+    name: &Text,
+    most: u64,
+    shelf: &mut H,
+) -> Result<Text, Status>
+    ensures held { IfOk result (λ text. Holds (H.files shelf.old) name.now most text) }
+    ensures failed { IfErr result (λ status. FileFails status name.now (H.files shelf.old) (H.load_faults shelf.old) (H.load_faults shelf.new)) }
+    ensures files { KeepsFiles (H.files shelf.old) (H.files shelf.new) }
+    ensures load_faults { H.load_faults shelf.old ≤ H.load_faults shelf.new }
+    ensures store_faults { H.store_faults shelf.old ≤ H.store_faults shelf.new }
+{
+    match shelf.load(alloc, name, most) {
+        Ok(text) => Ok(text),
+        Err(ShelfFault::Absent) => Err(Status::NoFile),
+        Err(ShelfFault::Failed) => Err(Status::ReadFault),
+        Err(ShelfFault::Memory) => Err(Status::WantOfMemory),
+    }
+}
+
 /// Loads a program and compiles it.
 pub fn load_image<H: Shelf>(alloc: Global, program: &Text, shelf: &mut H) -> Result<Image, Status>
     ensures built { IfOk result (λ image. IsBuilt program.now image (H.files shelf.old)) }
@@ -26,11 +47,9 @@ pub fn load_image<H: Shelf>(alloc: Global, program: &Text, shelf: &mut H) -> Res
     ensures load_faults { H.load_faults shelf.old ≤ H.load_faults shelf.new }
     ensures store_faults { H.store_faults shelf.old ≤ H.store_faults shelf.new }
 {
-    let text = match shelf.load(alloc, program, SOURCE_MOST) {
+    let text = match load_text(alloc, program, SOURCE_MOST, shelf) {
         Ok(text) => text,
-        Err(ShelfFault::Absent) => return Err(Status::NoFile),
-        Err(ShelfFault::Failed) => return Err(Status::ReadFault),
-        Err(ShelfFault::Memory) => return Err(Status::WantOfMemory),
+        Err(status) => return Err(status),
     };
     match compile(alloc, &text) {
         Ok(Some(image)) => Ok(image),

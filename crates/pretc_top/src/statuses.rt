@@ -1,4 +1,4 @@
-ghost use Rattle.std.specs.Prelude.{◌≡◌};
+ghost use Rattle.std.specs.Prelude.{◌≡◌, ◌≤◌, length};
 ghost use Rattle.pretc_top.specs.Commands.{number_of, line_of};
 
 /// How a call of `pretc` came out.
@@ -9,6 +9,8 @@ pub enum Status {
     ReadFault,
     WriteFault,
     WantOfMemory,
+    BadForm,
+    NotAccepted,
     StoreFault,
     NotBuilt,
     NoFile,
@@ -25,15 +27,18 @@ impl Status {
             Status::ReadFault => 3,
             Status::WriteFault => 4,
             Status::WantOfMemory => 5,
+            Status::BadForm => 8,
+            Status::NotAccepted => 9,
             Status::StoreFault => 11,
             Status::NotBuilt => 12,
             Status::NoFile => 17,
         }
     }
 
-    /// The line that is printed last, with its line feed.
+    /// The line that is printed last, with its line feed; none where the command has a line of its own.
     pub fn line(self) -> &'static [u8]
-        ensures { result.now ≡ line_of self }
+        ensures text { result.now ≡ line_of self }
+        ensures short { length result.now ≤ 1024 }
     {
         match self {
             Status::Done => b"",
@@ -41,6 +46,8 @@ impl Status {
             Status::ReadFault => b"read fault\n",
             Status::WriteFault => b"",
             Status::WantOfMemory => b"want of memory\n",
+            Status::BadForm => b"",
+            Status::NotAccepted => b"",
             Status::StoreFault => b"store fault\n",
             Status::NotBuilt => b"not built\n",
             Status::NoFile => b"no file\n",

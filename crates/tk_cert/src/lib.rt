@@ -9,6 +9,7 @@ mod cert;
 mod fault;
 mod line;
 mod lists;
+mod plain;
 mod read;
 mod walk;
 mod write;
@@ -16,6 +17,7 @@ mod writing;
 
 pub use cert::{Cert, CertParts, Line};
 pub use fault::CertFault;
+pub use plain::is_plain;
 
 #[cfg(test)]
 mod tests;

@@ -1,0 +1,16 @@
+use Rattle.std.proofs.Common.{refl}
+use Rattle.pretc_top.specs.Check.{accepted, refused}
+use Rattle.pretc_top.proofs.Judging.{yes_at, no_at}
+use Rattle.pretc_top.proofs.checking.answered.Goals as goal
+
+pub returns-in-Yes : goal.returns-in-Yes
+returns-in-Yes c =
+    accepted refl
+    (yes_at c.args.image.now c.args.cert.now c.yes_line.new.into c.check.result c.in-Yes.reached c.unit_costs.result c.bound.result c.unit_costs.ensures c.bound.ensures c.in-Yes.is
+    c.check.ensures.accepted c.check.ensures.free_ticks c.check.ensures.runs c.check.ensures.reached c.check.ensures.worst c.yes_line.ensures)
+
+pub returns-in-No : goal.returns-in-No
+returns-in-No c =
+    refused refl
+    (no_at c.args.image.now c.args.cert.now c.no_line.new.into c.check.result c.in-No.condition c.in-No.at c.in-No.level c.in-No.needed c.in-No.given c.unit_costs.result c.unit_costs.ensures
+    c.check.ensures.verdict c.in-No.is c.no_line.ensures)

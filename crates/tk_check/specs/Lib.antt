@@ -1,0 +1,4 @@
+pub mod Bounded
+pub mod Answers
+pub mod PlainLines
+pub mod Marked

@@ -1,0 +1,4 @@
+pub mod Pauses
+pub mod Steps
+pub mod Paths
+pub mod Telling

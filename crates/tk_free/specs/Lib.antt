@@ -1,0 +1,4 @@
+pub mod Configurations
+pub mod Free
+pub mod Walks
+pub mod Turns

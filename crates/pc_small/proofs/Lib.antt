@@ -1,11 +1,5 @@
-pub mod Splitting
-pub mod Starts
-pub mod SoFar
-pub mod Found
-pub mod SoundDeclarations
-pub mod SoundSteps
-pub mod Limits
-pub mod CompleteDeclarations
-pub mod CompleteSteps
+pub mod Lists
+pub mod Counts
+pub mod Fitting
+pub mod Parts
 pub mod Whole
-pub mod Exact

@@ -1,4 +1,3 @@
 pub mod Program
-pub mod Words
-pub mod Spelling
-pub mod Reading
+pub mod Trees
+pub mod Limits

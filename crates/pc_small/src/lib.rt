@@ -1,18 +1,18 @@
 //! Small programs: declarations of cells, and a `main` that holds sums and pauses (`docs/language.md`,
-//! "Small programs"). It stands on the tokens of `pc_lex`.
+//! "Small programs"). It stands on the trees of `pc_ast`.
 //!
-//! Its contract: `read_small` gives the program that a text spells, and none exactly where the text spells none.
+//! Its contract: `small_of` gives the program that a tree is, and none exactly where the tree is none.
 //! A `Small` is within the limits, its steps speak of declared cells alone, and none of them assigns an input.
 #![tactic(auto)]
 
 mod declarations;
+mod limits;
 mod program;
-mod reader;
 mod steps;
-mod words;
+mod trees;
 
 pub use program::{Cell, CellKind, Operand, Small, Step};
-pub use reader::{one_program, read_small};
+pub use trees::{one_program, small_of};
 
 #[cfg(test)]
 mod tests;

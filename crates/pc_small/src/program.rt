@@ -56,6 +56,17 @@ impl Model for Small {
 }
 
 impl Small {
+    /// A small program of these cells and steps.
+    pub fn of(cells: Vec<Cell>, steps: Vec<Step>) -> Small
+        requires { IsSmall (record { cells = cells.items; steps = steps.items }) }
+        ensures { result ≡ record { cells = cells.items; steps = steps.items } }
+    {
+        Small {
+            cells: Many::of(cells),
+            steps: Many::of(steps),
+        }
+    }
+
     /// The declared cells, in order.
     pub fn cells(&self) -> &[Cell]
         ensures cells { result.now ≡ self.now.cells }
@@ -70,16 +81,5 @@ impl Small {
         ensures small { IsSmall self.now }
     {
         self.steps.items()
-    }
-}
-
-/// A small program of these cells and steps.
-pub fn small_of(cells: Vec<Cell>, steps: Vec<Step>) -> Small
-    requires { IsSmall (record { cells = cells.items; steps = steps.items }) }
-    ensures { result ≡ record { cells = cells.items; steps = steps.items } }
-{
-    Small {
-        cells: Many::of(cells),
-        steps: Many::of(steps),
     }
 }

@@ -11,6 +11,8 @@ const FIRST_IMAGE: &[u8] =
 
 const GO: &[&str] = &["go", "p", "im"];
 
+const PRINT: &[&str] = &["print", "p"];
+
 fn with<'a>(program: &'a [u8], input: &'a [u8]) -> Outside<'a> {
     Outside {
         program,
@@ -79,6 +81,8 @@ fn other_words_are_a_usage_fault(rt: HostRuntime) -> Result<(), Fail> {
         &[],
         &["go"],
         &["go", "p"],
+        &["print"],
+        &["print", "p", "p"],
         &["go", "p", "p"],
         &["go", "p", "im", "x"],
         &["gone", "p", "im"],
@@ -102,7 +106,11 @@ fn other_words_are_a_usage_fault(rt: HostRuntime) -> Result<(), Fail> {
 
 #[test]
 fn an_absent_program_is_no_file(rt: HostRuntime) -> Result<(), Fail> {
-    let cases: &[&[&str]] = &[&["go", "missing", "im"], &["go", "", "im"]];
+    let cases: &[&[&str]] = &[
+        &["go", "missing", "im"],
+        &["go", "", "im"],
+        &["print", "missing"],
+    ];
     for words in cases {
         assert!(rt;
             comes_so(
@@ -117,16 +125,17 @@ fn an_absent_program_is_no_file(rt: HostRuntime) -> Result<(), Fail> {
 }
 
 #[test]
-fn a_source_that_is_not_small_is_not_built(rt: HostRuntime) -> Result<(), Fail> {
+fn a_program_that_is_not_small_is_not_built(rt: HostRuntime) -> Result<(), Fail> {
     let cases: &[&[u8]] = &[
         b"",
         b"void main() { o = 1; }",
-        b"int o; void main() { o = 4294967296; }",
-        b"int o; void main() { o = 0x1; }",
-        b"int while; void main() { }",
         b"ReactiveInput int a = 0; void main() { a = 1; }",
-        b"void main() { /* */ }",
-        b"void main() { EOT",
+        b"int o; void main() { o = o - 1; }",
+        b"int o; void main() { if (o) EOT; }",
+        b"int o; int o; void main() { o = 1; }",
+        b"int main; void main() { EOT; }",
+        b"int o; void main() { int i; o = 1; }",
+        b"void main() { EOT; } int o;",
     ];
     for program in cases {
         assert!(rt;
@@ -138,6 +147,88 @@ fn a_source_that_is_not_small_is_not_built(rt: HostRuntime) -> Result<(), Fail> 
             )?
         );
     }
+    Ok(())
+}
+
+#[test]
+fn a_program_that_breaks_a_rule_is_refused(rt: HostRuntime) -> Result<(), Fail> {
+    let cases: &[(&[u8], &[u8])] = &[
+        (
+            b"int o; void main() { o = 4294967296; }",
+            b"refused L2 25 35\n",
+        ),
+        (b"int 1x; void main() { }", b"refused L1 4 6\n"),
+        (b"void main() { } /* x", b"refused L3 16 18\n"),
+        (b"int while; void main() { }", b"refused S1 4 9\n"),
+        (b"void main() { EOT", b"refused S1 17 17\n"),
+        (b"int o; void main() { o = 1 } $", b"refused L1 29 30\n"),
+        (b"void main() { PAR(); }", b"refused S1 18 19\n"),
+        (b"void main() { EOT; int i; }", b"refused S1 19 22\n"),
+    ];
+    for (program, line) in cases {
+        for words in [GO, PRINT] {
+            assert!(rt;
+                comes_so(
+                    rt.alloc(),
+                    words,
+                    with(program, b"4\n"),
+                    wanted(1, line, None, 2)
+                )?
+            );
+        }
+    }
+    Ok(())
+}
+
+#[test]
+fn print_writes_the_canonical_text(rt: HostRuntime) -> Result<(), Fail> {
+    let cases: &[(&[u8], &[u8])] = &[
+        (
+            b"int x=0;void main(){x=(1+2)*x;EOT;}",
+            b"int x = 0;\nvoid main() {\n  x = (1 + 2) * x;\n  EOT;\n}\n",
+        ),
+        (
+            b"int x;void main(){if(x)x=x--x;else;while(x)#2 x=-(-x);EOT;}",
+            b"int x = 0;\nvoid main() {\n  if (x)\n    x = x - -x;\n  else\n    ;\n  while (x) #2\n    x = - -x;\n  EOT;\n}\n",
+        ),
+        (b"", b""),
+        (
+            b"ReactiveInput int a = -1; int v[0x10]; // end",
+            b"ReactiveInput int a = -1;\nint v[16];\n",
+        ),
+    ];
+    for (program, text) in cases {
+        assert!(rt;
+            comes_so(
+                rt.alloc(),
+                PRINT,
+                with(program, b"4\n"),
+                wanted(0, text, None, 2)
+            )?
+        );
+        // the text is its own canonical text
+        assert!(rt;
+            comes_so(
+                rt.alloc(),
+                PRINT,
+                with(text, b"4\n"),
+                wanted(0, text, None, 2)
+            )?
+        );
+    }
+    // the second line can't be pushed
+    let outside = Outside {
+        sink_fails: &[1],
+        ..with(b"int x;\nint y;", b"")
+    };
+    assert!(rt;
+        comes_so(
+            rt.alloc(),
+            PRINT,
+            outside,
+            wanted(4, b"int x = 0;\n", None, 0)
+        )?
+    );
     Ok(())
 }
 

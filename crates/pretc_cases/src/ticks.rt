@@ -5,7 +5,8 @@ use mb_core::Machine;
 use mb_isa::unit_costs;
 use pc_compile::build;
 use pc_meaning::{inputs, meaning};
-use pc_small::read_small;
+use pc_small::small_of;
+use pc_source::source_of;
 use pt_base::{Many, Memory, Text};
 use pt_image::Image;
 use std::alloc::Global;
@@ -81,7 +82,7 @@ fn flat(alloc: Global, ticks: &[Many<i32>]) -> Result<Vec<i32>, Memory> {
 }
 
 /// Whether the program's meaning and the machine's ticks on its image both give these outputs, tick after tick.
-/// Where the source isn't small, or a row hasn't a number for each input, they don't.
+/// Where the source isn't a program or isn't small, or a row hasn't a number for each input, they don't.
 pub fn both_ways(
     alloc: Global,
     source: &[u8],
@@ -89,7 +90,10 @@ pub fn both_ways(
     outputs: &[i32],
 ) -> Result<bool, Memory> {
     let text = Text::of(alloc, source)?;
-    let Some(program) = read_small(alloc, &text)? else {
+    let Ok(tree) = source_of(alloc, &text) else {
+        return Ok(false);
+    };
+    let Some(program) = small_of(alloc, &tree)? else {
         return Ok(false);
     };
     let width = inputs(alloc, &program)?.len();

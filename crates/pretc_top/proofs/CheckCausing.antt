@@ -11,7 +11,7 @@ use Rattle.pretc_top.specs.Check.{IsYes, load_failed, load_lacks, load_memory, L
 use Rattle.pretc_top.specs.Causes.{ChecksTo, IsBound}
 
 -- a status has one number
-other_number : (status other : Status) (m n : ℕ) → number_of other ≡ m → number_of status ≡ n → m ≢ n → status ≡ other → ⊥
+pub other_number : (status other : Status) (m n : ℕ) → number_of other ≡ m → number_of status ≡ n → m ≢ n → status ≡ other → ⊥
 other_number status other m n is given differ e = differ (sym is ∙ sym (ap number_of e) ∙ given)
 
 -- what a check that was loaded and read has for its status is none of these numbers

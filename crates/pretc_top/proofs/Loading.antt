@@ -3,17 +3,8 @@ use Rattle.std.proofs.Common.{◌≤◌, ℕ, List, Option, Some, None, sym, sub
 use Rattle.pt_outside.specs.Counts.{Rose}
 use Rattle.pt_outside.specs.Files.{Files, KeepsFiles, Holds, Lacks}
 use Rattle.pretc_top.specs.declared.statuses.Status.{Status}
-use Rattle.pretc_top.specs.Stages.{FileFails, file_failed, file_lacks, file_memory, LoadFails}
+use Rattle.pretc_top.specs.Stages.{FileFails, file_failed, file_lacks, file_memory}
 use Rattle.pretc_top.specs.Check.{image_most, LoadsFail, load_failed, load_lacks, load_memory}
-
--- a file that wasn't loaded is no program
-pub load_fails : (status : Status) (name : List ℕ) (files : Option Files) (before now : ℕ) → FileFails status name files before now → LoadFails status name files before now
-load_fails status name files before now (file_failed e r) =
-    let P : Status → Type 0 = λ s. LoadFails s name files before now in subst P (sym e) r
-load_fails status name files before now (file_lacks e l) =
-    let P : Status → Type 0 = λ s. LoadFails s name files before now in subst P (sym e) l
-load_fails status name files before now (file_memory e) =
-    let P : Status → Type 0 = λ s. LoadFails s name files before now in subst P (sym e) tt
 
 -- what files hold after a call that keeps them, they held before
 pub held_before : (old new : Option Files) (name : List ℕ) (most : ℕ) (text : List ℕ) → KeepsFiles old new → Holds new name most text → Holds old name most text

@@ -66,7 +66,7 @@ ready_done program name old new machine rows outputs r =
       read = r.read;
       reported = record {
         program = compiled.program;
-        spelled = compiled.spelled;
+        small = compiled.tree;
         due_is = ap (λ m. run_text (told_by m cycles_most rows)) r.loaded;
         outputs_are = each_outputs compiled.program r.image (moments compiled.program rows) (run r.image unit cycles_most rows) (means program name old new machine rows outputs r);
       };

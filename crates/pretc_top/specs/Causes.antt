@@ -5,14 +5,27 @@ use Rattle.mb_isa.specs.Costs.{unit}
 use Rattle.pt_image.specs.declared.Parts.{Parts}
 use Rattle.tk_cert.specs.declared.CertParts.{CertParts}
 use Rattle.tk_check.specs.Bounded.{BoundsFreeTicks, BoundsRuns}
-use Rattle.pretc_top.specs.Commands.{Command, Go, Check}
+use Rattle.pt_base.specs.declared.Rule.{Rule}
+use Rattle.pt_base.specs.declared.Span.{Span}
+use Rattle.pc_source.specs.Sources.{Breaks}
+use Rattle.pretc_top.specs.Go.{source_most}
+use Rattle.pretc_top.specs.Commands.{Command, Go, Check, Print}
 use Rattle.pretc_top.specs.Check.{image_most, cert_most, unit_word, LacksOne, IsImageText, IsCertText}
+
+-- the program was loaded, and breaks this rule first
+pub record BreaksRule (program : List ℕ) (files : Option Files) : Type 0 where
+  pub text : List ℕ
+  pub held : Holds files program source_most text
+  pub rule : Rule
+  pub span : Span
+  pub breaks : Breaks text rule span
 
 -- the file to be loaded next isn't among the files that the shelf tells of
 abbrev pub LacksFile : Option Command → Option Files → Type 0
 LacksFile None files = ⊥
 LacksFile (Some (Go program name)) files = Lacks files program
 LacksFile (Some (Check image cert costs)) files = LacksOne image cert files
+LacksFile (Some (Print program)) files = Lacks files program
 
 -- the two files of a check at unit costs, with what their texts come to
 pub record ChecksTo (image cert costs : List ℕ) (files : Option Files) (P : List ℕ → List ℕ → Type 0) : Type 0 where
@@ -22,12 +35,6 @@ pub record ChecksTo (image cert costs : List ℕ) (files : Option Files) (P : Li
   pub image_held : Holds files image image_most image_text
   pub cert_held : Holds files cert cert_most cert_text
   pub comes : P image_text cert_text
-
--- a fact of the texts of a check; no other command has one
-abbrev pub OfCheck : Option Command → Option Files → (List ℕ → List ℕ → Type 0) → Type 0
-OfCheck None files P = ⊥
-OfCheck (Some (Go program name)) files P = ⊥
-OfCheck (Some (Check image cert costs)) files P = ChecksTo image cert costs files P
 
 -- the bound of the certificate bounds the image
 pub record IsBound (image_text cert_text : List ℕ) : Type 0 where
@@ -43,3 +50,11 @@ abbrev pub BoundHolds : Option Command → Option Files → Type 0
 BoundHolds None files = ⊥
 BoundHolds (Some (Go program name)) files = Unit {0}
 BoundHolds (Some (Check image cert costs)) files = ChecksTo image cert costs files IsBound
+BoundHolds (Some (Print program)) files = Unit {0}
+
+-- the program of the command breaks a rule of size, tokens or grammar, and this is the first
+abbrev pub IsRefusedBy : Option Command → Option Files → Type 0
+IsRefusedBy None files = ⊥
+IsRefusedBy (Some (Go program name)) files = BreaksRule program files
+IsRefusedBy (Some (Check image cert costs)) files = ⊥
+IsRefusedBy (Some (Print program)) files = BreaksRule program files

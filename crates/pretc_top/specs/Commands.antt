@@ -2,15 +2,17 @@
 use Rattle.std.specs.Prelude.{ℕ, ◌&&◌, not, if◌then◌else◌, List, [], ◌∷◌, codes, Option, Some, None}
 use Rattle.std.specs.Str.{bytes_eq}
 use Rattle.pretc_top.specs.declared.statuses.Status.{Status}
-use Rattle.pretc_top.specs.declared.statuses.Status.TheVariants.{Done, Usage, ReadFault, WriteFault, WantOfMemory, BadForm, NotAccepted, StoreFault, NotBuilt, NoFile}
+use Rattle.pretc_top.specs.declared.statuses.Status.TheVariants.{Done, Refused, Usage, ReadFault, WriteFault, WantOfMemory, BadForm, NotAccepted, StoreFault, NotBuilt, NoFile}
 
 -- a command with the names that it is given
 pub data Command : Type 0 where
   Go : (program image : List ℕ) → Command
   Check : (image cert costs : List ℕ) → Command
+  Print : (program : List ℕ) → Command
 
 -- the command that words are, if they are one; `go` with two equal names is none
 abbrev pub command_of : List (List ℕ) → Option Command
+command_of (verb ∷ program ∷ []) = if bytes_eq verb (codes "print") then Some (Print program) else None
 command_of (verb ∷ program ∷ image ∷ []) = if bytes_eq verb (codes "go") && not (bytes_eq program image) then Some (Go program image) else None
 command_of (verb ∷ image ∷ cert ∷ costs ∷ []) = if bytes_eq verb (codes "check") then Some (Check image cert costs) else None
 command_of words = None
@@ -18,6 +20,7 @@ command_of words = None
 -- the exit status
 abbrev pub number_of : Status → ℕ
 number_of Done = 0
+number_of Refused = 1
 number_of Usage = 2
 number_of ReadFault = 3
 number_of WriteFault = 4
@@ -28,9 +31,10 @@ number_of StoreFault = 11
 number_of NotBuilt = 12
 number_of NoFile = 17
 
--- the line that a status prints last; a report and the answers of a check have their own, and a failed write prints none
+-- the line that a status prints last; a report, a printed program, a refusal and the answers of a check have their own, and a failed write prints none
 abbrev pub line_of : Status → List ℕ
 line_of Done = []
+line_of Refused = []
 line_of Usage = codes "usage\n"
 line_of ReadFault = codes "read fault\n"
 line_of WriteFault = []

@@ -10,12 +10,17 @@ use Rattle.pt_image.specs.declared.image.Parts.{Parts}
 use Rattle.pt_image.specs.Text.{text_of}
 use Rattle.mb_isa.specs.Costs.{unit}
 use Rattle.mb_core.specs.Run.{run}
-use Rattle.pc_small.specs.Program.{Program}
-use Rattle.pc_small.specs.Spelling.{Spells}
+use Rattle.pt_base.specs.declared.Rule.{Rule}
+use Rattle.pt_base.specs.declared.Span.{Span}
+use Rattle.pt_trace.specs.Refused.{refused_line}
+use Rattle.pc_ast.specs.declared.Program.{Program}
+use Rattle.pc_source.specs.Sources.{IsSource, Breaks}
+use Rattle.pc_small.specs.Program as small
+use Rattle.pc_small.specs.Trees.{IsTreeOf}
 use Rattle.pc_meaning.specs.Meaning.{meaning_of}
 use Rattle.pc_compile.specs.Compiled.{Compiles}
 use Rattle.pretc_top.specs.declared.statuses.Status.{Status}
-use Rattle.pretc_top.specs.declared.statuses.Status.TheVariants.{Done, Usage, ReadFault, WriteFault, WantOfMemory, BadForm, NotAccepted, StoreFault, NotBuilt, NoFile}
+use Rattle.pretc_top.specs.declared.statuses.Status.TheVariants.{Done, Refused, Usage, ReadFault, WriteFault, WantOfMemory, BadForm, NotAccepted, StoreFault, NotBuilt, NoFile}
 use Rattle.pretc_top.specs.Commands.{number_of, line_of}
 use Rattle.pretc_top.specs.Told.{told}
 
@@ -50,11 +55,26 @@ trace_most = 1048576
 abbrev pub cycles_most : ℕ
 cycles_most = 1000000000000
 
--- the program was loaded and compiled to an image
-pub record IsBuilt (program : List ℕ) (image : Parts) (files : Option Files) : Type 0 where
+-- the program was loaded, and its tokens spell this tree
+pub record IsLoaded (program : List ℕ) (files : Option Files) (tree : Program) : Type 0 where
   pub text : List ℕ
   pub held : Holds files program source_most text
-  pub compiled : Compiles text image
+  pub source : IsSource text tree
+
+-- the program was loaded and compiled to an image
+pub record IsBuilt (program : List ℕ) (image : Parts) (files : Option Files) : Type 0 where
+  pub tree : Program
+  pub loaded : IsLoaded program files tree
+  pub compiled : Compiles tree.items image
+
+-- the program was loaded, and this is the first rule that it breaks
+pub record IsRefusedProgram (program : List ℕ) (files : Option Files) (due : List ℕ) : Type 0 where
+  pub text : List ℕ
+  pub held : Holds files program source_most text
+  pub rule : Rule
+  pub span : Span
+  pub breaks : Breaks text rule span
+  pub line : due ≡ refused_line rule span.from span.to
 
 -- the program was loaded and compiled, and the one text of its image was stored, and nothing else
 pub record IsStored (program name : List ℕ) (image : Parts) (before after : Option Files) : Type 0 where
@@ -77,9 +97,9 @@ pub data IsBadTrace (width : ℕ) (before after : Option (List ℕ)) : Type 0 wh
 
 -- the report of the stored image on the rows of the trace: the outputs are those of the program's meaning, and the
 -- cycles those of the machine, at unit costs
-pub record IsReport (text : List ℕ) (image : Parts) (rows : List (List ℤ)) (due : List ℕ) : Type 0 where
-  pub program : Program
-  pub spelled : Spells text program
+pub record IsReport (tree : Program) (image : Parts) (rows : List (List ℤ)) (due : List ℕ) : Type 0 where
+  pub program : small.Program
+  pub small : IsTreeOf tree.items program
   pub due_is : due ≡ run_text (told (run image unit cycles_most rows))
   pub outputs_are : map (λ (tick : List ℤ × ℕ). tick.0) (told (run image unit cycles_most rows)) ≡ meaning_of program rows
 
@@ -89,13 +109,13 @@ pub record IsDone (program name : List ℕ) (old new : Outside) (due : List ℕ)
   pub stored : IsStored program name image old.files new.files
   pub rows : List (List ℤ)
   pub read : IsRead (length image.inputs) rows old.left new.left
-  pub reported : IsReport stored.built.text image rows due
+  pub reported : IsReport stored.built.tree image rows due
 
--- the source isn't small, and nothing is stored or pulled
+-- the program isn't small, and nothing is stored or pulled
 pub record IsNotSmall (program : List ℕ) (old new : Outside) : Type 0 where
-  pub text : List ℕ
-  pub held : Holds old.files program source_most text
-  pub not_small : (p : Program) → Spells text p → ⊥
+  pub tree : Program
+  pub loaded : IsLoaded program old.files tree
+  pub not_small : (p : small.Program) → IsTreeOf tree.items p → ⊥
   pub files : KeepsFiles old.files new.files
   pub left : new.left ≡ old.left
 
@@ -132,6 +152,7 @@ IsWant program name old new = KeepsFiles old.files new.files ⊎ ((image : Parts
 -- how `go` comes to a status, with the text that is due then
 abbrev pub GoEnds : Status → List ℕ → List ℕ → Outside → Outside → List ℕ → Type 0
 GoEnds Done program name old new due = IsDone program name old new due
+GoEnds Refused program name old new due = IsRefusedProgram program old.files due × KeepsFiles old.files new.files × (new.left ≡ old.left)
 GoEnds Usage program name old new due = ⊥
 GoEnds ReadFault program name old new due = (due ≡ line_of ReadFault) × (IsFailedLoad old new ⊎ IsFailedPull program name old new)
 GoEnds WriteFault program name old new due = ⊥
@@ -153,6 +174,7 @@ pub record IsUsage (old new : Outside) (due : List ℕ) : Type 0 where
 
 abbrev pub UsageEnds : Status → Outside → Outside → List ℕ → Type 0
 UsageEnds Done old new due = ⊥
+UsageEnds Refused old new due = ⊥
 UsageEnds Usage old new due = IsUsage old new due
 UsageEnds ReadFault old new due = ⊥
 UsageEnds WriteFault old new due = ⊥

@@ -3,8 +3,10 @@ pub mod Told
 pub mod Reported
 pub mod Go
 pub mod Check
+pub mod Print
 pub mod Comes
 pub mod Stages
 pub mod Readying
 pub mod Causes
 pub mod Calls
+pub mod Refusing

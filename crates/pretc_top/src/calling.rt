@@ -4,11 +4,12 @@ ghost use Rattle.pt_outside.specs.Counts.{Rose};
 ghost use Rattle.pretc_top.specs.Calls.{IsCall};
 ghost use Rattle.pretc_top.specs.Comes.{Comes};
 ghost use Rattle.pretc_top.specs.Go.{outside, written_is};
-ghost use Rattle.pretc_top.specs.Causes.{LacksFile, BoundHolds};
+ghost use Rattle.pretc_top.specs.Causes.{LacksFile, BoundHolds, IsRefusedBy};
 
 use crate::checking::check_files;
 use crate::ending::finish;
 use crate::going::go;
+use crate::printing::print_program;
 use crate::statuses::Status;
 use pt_base::Text;
 use pt_outside::{Shelf, Sink, Source};
@@ -19,6 +20,7 @@ use std::alloc::Global;
 enum Call<'a> {
     Go(&'a Text, &'a Text),
     Check(&'a Text, &'a Text, &'a Text),
+    Print(&'a Text),
 }
 
 // The command that the words are, if they are one.
@@ -26,6 +28,13 @@ fn call_of(words: &[Text]) -> Option<Call<'_>>
     ensures { IsCall result (command_of words.now) }
 {
     match words {
+        [verb, program] => {
+            if verb.bytes() == b"print".as_slice() {
+                Some(Call::Print(program))
+            } else {
+                None
+            }
+        }
         [verb, program, name] => {
             if verb.bytes() == b"go".as_slice() && program.bytes() != name.bytes() {
                 Some(Call::Go(program, name))
@@ -62,6 +71,7 @@ fn called<H: Shelf, I: Source, O: Sink>(
         None => finish(Status::Usage, out),
         Some(Call::Go(program, name)) => go(alloc, program, name, shelf, input, out),
         Some(Call::Check(image, cert, costs)) => check_files(alloc, image, cert, costs, shelf, out),
+        Some(Call::Print(program)) => print_program(alloc, program, shelf, out),
     }
 }
 
@@ -80,6 +90,7 @@ pub fn pretc<H: Shelf, I: Source, O: Sink>(
     ensures usage { result ≡ 2 → command_of words.now.items ≡ None }
     ensures usage_comes { command_of words.now.items ≡ None → (result ≡ 2) ⊎ (result ≡ 4) }
     ensures bound { result ≡ 0 → BoundHolds (command_of words.now.items) (H.files shelf.old) }
+    ensures refused { result ≡ 1 → IsRefusedBy (command_of words.now.items) (H.files shelf.old) }
     ensures no_file { result ≡ 17 → LacksFile (command_of words.now.items) (H.files shelf.old) }
     ensures read_fault { result ≡ 3 → Rose (H.load_faults shelf.old) (H.load_faults shelf.new) ⊎ Rose (I.faults input.old) (I.faults input.new) }
     ensures write_fault { result ≡ 4 → Rose (O.faults out.old) (O.faults out.new) }

@@ -2,13 +2,13 @@ ghost use Rattle.std.specs.Prelude.{◌≡◌, ◌≤◌, ◌↔◌, IsTrue, ℕ
 ghost use Rattle.pt_outside.specs.Files.{KeepsFiles};
 ghost use Rattle.mb_core.specs.Plain.{IsPlain};
 ghost use Rattle.tk_cert.specs.Plain.{IsPlainCert};
-ghost use Rattle.pretc_top.specs.Commands.{line_of};
 ghost use Rattle.pretc_top.specs.Go.{written_is};
 ghost use Rattle.pretc_top.specs.Check.{unit_word, IsImageText, ImageFails, IsCertText, CertFails, Answered, Judged, AreLoaded, LoadsFail, CheckCase, CheckComes};
 
 use crate::ending::finish_with;
 use crate::stages::load_text;
 use crate::statuses::Status;
+use crate::verdicts::{Verdict, said};
 use mb_isa::unit_costs;
 use pt_base::Text;
 use pt_image::{Image, ImageFault};
@@ -22,24 +22,6 @@ use tk_check::{Answer, check};
 const IMAGE_MOST: u64 = 16777217;
 
 const CERT_MOST: u64 = 1099511627777;
-
-// How a check ends: its status, and the line that is due.
-#[derive(Drop)]
-struct Verdict {
-    status: Status,
-    line: LineBuffer,
-}
-
-// The end with the status's own line.
-fn said(status: Status) -> Verdict
-    ensures status { result.status ≡ status }
-    ensures line { result.line ≡ line_of status }
-{
-    Verdict {
-        status,
-        line: LineBuffer::of(status.line()),
-    }
-}
 
 // The image whose text it is.
 fn read_image(alloc: Global, text: &Text) -> Result<Image, Verdict>

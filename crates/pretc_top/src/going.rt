@@ -1,5 +1,5 @@
 ghost use Rattle.std.specs.Prelude.{◌≡◌, ◌≤◌, ℕ, List, [], All, None, IfOk, IfErr, length};
-ghost use Rattle.pretc_top.specs.Commands.{line_of, number_of};
+ghost use Rattle.pretc_top.specs.Commands.{number_of};
 ghost use Rattle.pretc_top.specs.Go.{Answers, GoEnds, GoComes, outside, written_is, cycles_most};
 ghost use Rattle.pretc_top.specs.Readying.{IsReady};
 ghost use Rattle.pretc_top.specs.Reported.{told_by, NeverTraps};
@@ -8,10 +8,11 @@ ghost use Rattle.mb_isa.specs.Costs.{unit};
 ghost use Rattle.mb_core.specs.Plain.{IsPlain};
 ghost use Rattle.mb_core.specs.Machine.{fresh};
 
-use crate::ending::{close, finish};
+use crate::ending::{close, finish_with};
 use crate::reporting::write_report;
 use crate::stages::{load_image, read_trace, store_image};
 use crate::statuses::Status;
+use crate::verdicts::{Verdict, said};
 use mb_core::Machine;
 use mb_isa::unit_costs;
 use pt_base::{Many, Memory, Text};
@@ -59,18 +60,24 @@ fn prepare<H: Shelf, I: Source>(
     name: &Text,
     shelf: &mut H,
     input: &mut I,
-) -> Result<Ready, Status>
+) -> Result<Ready, Verdict>
     ensures ready { IfOk result (λ ready. IsReady program.now name.now (outside (H.files shelf.old) (H.load_faults shelf.old) (H.store_faults shelf.old) (I.left input.old) (I.faults input.old)) (outside (H.files shelf.new) (H.load_faults shelf.new) (H.store_faults shelf.new) (I.left input.new) (I.faults input.new)) ready.machine ready.rows ready.outputs.items) }
-    ensures failed { IfErr result (λ status. GoEnds status program.now name.now (outside (H.files shelf.old) (H.load_faults shelf.old) (H.store_faults shelf.old) (I.left input.old) (I.faults input.old)) (outside (H.files shelf.new) (H.load_faults shelf.new) (H.store_faults shelf.new) (I.left input.new) (I.faults input.new)) (line_of status)) }
+    ensures failed { IfErr result (λ verdict. GoEnds verdict.status program.now name.now (outside (H.files shelf.old) (H.load_faults shelf.old) (H.store_faults shelf.old) (I.left input.old) (I.faults input.old)) (outside (H.files shelf.new) (H.load_faults shelf.new) (H.store_faults shelf.new) (I.left input.new) (I.faults input.new)) verdict.line) }
     ensures load_faults { H.load_faults shelf.old ≤ H.load_faults shelf.new }
     ensures store_faults { H.store_faults shelf.old ≤ H.store_faults shelf.new }
     ensures source_faults { I.faults input.old ≤ I.faults input.new }
 {
-    let image = load_image(alloc, program, shelf)?;
-    store_image(alloc, name, &image, shelf)?;
+    let image = match load_image(alloc, program, shelf) {
+        Ok(image) => image,
+        Err(verdict) => return Err(verdict),
+    };
+    match store_image(alloc, name, &image, shelf) {
+        Ok(()) => {}
+        Err(status) => return Err(said(status)),
+    }
     let rows = match read_trace(alloc, image.inputs().len() as u32, input) {
         Ok(rows) => rows,
-        Err(status) => return Err(status),
+        Err(status) => return Err(said(status)),
     };
     match load_machine(alloc, &image) {
         Ok((machine, outputs)) => Ok(Ready {
@@ -78,7 +85,7 @@ fn prepare<H: Shelf, I: Source>(
             rows,
             outputs,
         }),
-        Err(_) => Err(Status::WantOfMemory),
+        Err(_) => Err(said(Status::WantOfMemory)),
     }
 }
 
@@ -123,6 +130,6 @@ pub fn go<H: Shelf, I: Source, O: Sink>(
 {
     match prepare(alloc, program, name, shelf, input) {
         Ok(ready) => report(ready, out),
-        Err(status) => finish(status, out),
+        Err(verdict) => finish_with(verdict.status, verdict.line.bytes(), out),
     }
 }

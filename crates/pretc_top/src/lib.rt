@@ -5,9 +5,11 @@ mod calling;
 mod checking;
 mod ending;
 mod going;
+mod printing;
 mod reporting;
 mod stages;
 mod statuses;
+mod verdicts;
 
 pub use calling::pretc;
 pub use statuses::Status;

@@ -1,11 +1,14 @@
 ghost use Rattle.std.specs.Prelude.{◌≡◌, ◌≤◌, ℕ, List, All, IfOk, IfErr, OnOk, length};
 ghost use Rattle.pt_outside.specs.Files.{KeepsFiles, Stores, Holds};
 ghost use Rattle.pt_image.specs.Text.{text_of};
-ghost use Rattle.pretc_top.specs.Go.{IsBuilt, IsRead};
-ghost use Rattle.pretc_top.specs.Stages.{FileFails, LoadFails, StoreFails, TraceFails};
+ghost use Rattle.pretc_top.specs.Go.{IsLoaded, IsBuilt, IsRead};
+ghost use Rattle.pretc_top.specs.Stages.{FileFails, ProgramFails, BuildFails, StoreFails, TraceFails};
 
 use crate::statuses::Status;
+use crate::verdicts::{Verdict, refused, said};
+use pc_ast::Program;
 use pc_compile::compile;
+use pc_source::source_of;
 use pt_base::{Many, Text};
 use pt_image::Image;
 use pt_outside::{Shelf, ShelfFault, Source, StoreFault};
@@ -39,22 +42,43 @@ pub fn load_text<H: Shelf>(
     }
 }
 
-/// Loads a program and compiles it.
-pub fn load_image<H: Shelf>(alloc: Global, program: &Text, shelf: &mut H) -> Result<Image, Status>
-    ensures built { IfOk result (λ image. IsBuilt program.now image (H.files shelf.old)) }
-    ensures failed { IfErr result (λ status. LoadFails status program.now (H.files shelf.old) (H.load_faults shelf.old) (H.load_faults shelf.new)) }
+/// Loads a program and reads it.
+pub fn load_program<H: Shelf>(alloc: Global, name: &Text, shelf: &mut H) -> Result<Program, Verdict>
+    ensures loaded { IfOk result (λ tree. IsLoaded name.now (H.files shelf.old) tree) }
+    ensures failed { IfErr result (λ verdict. ProgramFails verdict.status name.now (H.files shelf.old) (H.load_faults shelf.old) (H.load_faults shelf.new) verdict.line) }
     ensures files { KeepsFiles (H.files shelf.old) (H.files shelf.new) }
     ensures load_faults { H.load_faults shelf.old ≤ H.load_faults shelf.new }
     ensures store_faults { H.store_faults shelf.old ≤ H.store_faults shelf.new }
 {
-    let text = match load_text(alloc, program, SOURCE_MOST, shelf) {
+    let text = match load_text(alloc, name, SOURCE_MOST, shelf) {
         Ok(text) => text,
-        Err(status) => return Err(status),
+        Err(status) => return Err(said(status)),
     };
-    match compile(alloc, &text) {
+    match source_of(alloc, &text) {
+        Ok(program) => Ok(program),
+        Err(refusal) => {
+            let verdict = refused(refusal);
+            Err(verdict)
+        }
+    }
+}
+
+/// Loads a program and compiles it.
+pub fn load_image<H: Shelf>(alloc: Global, program: &Text, shelf: &mut H) -> Result<Image, Verdict>
+    ensures built { IfOk result (λ image. IsBuilt program.now image (H.files shelf.old)) }
+    ensures failed { IfErr result (λ verdict. BuildFails verdict.status program.now (H.files shelf.old) (H.load_faults shelf.old) (H.load_faults shelf.new) verdict.line) }
+    ensures files { KeepsFiles (H.files shelf.old) (H.files shelf.new) }
+    ensures load_faults { H.load_faults shelf.old ≤ H.load_faults shelf.new }
+    ensures store_faults { H.store_faults shelf.old ≤ H.store_faults shelf.new }
+{
+    let tree = match load_program(alloc, program, shelf) {
+        Ok(tree) => tree,
+        Err(verdict) => return Err(verdict),
+    };
+    match compile(alloc, &tree) {
         Ok(Some(image)) => Ok(image),
-        Ok(None) => Err(Status::NotBuilt),
-        Err(_) => Err(Status::WantOfMemory),
+        Ok(None) => Err(said(Status::NotBuilt)),
+        Err(_) => Err(said(Status::WantOfMemory)),
     }
 }
 

@@ -5,6 +5,7 @@ ghost use Rattle.pretc_top.specs.Commands.{number_of, line_of};
 #[derive(Clone, Copy)]
 pub enum Status {
     Done,
+    Refused,
     Usage,
     ReadFault,
     WriteFault,
@@ -23,6 +24,7 @@ impl Status {
     {
         match self {
             Status::Done => 0,
+            Status::Refused => 1,
             Status::Usage => 2,
             Status::ReadFault => 3,
             Status::WriteFault => 4,
@@ -42,6 +44,7 @@ impl Status {
     {
         match self {
             Status::Done => b"",
+            Status::Refused => b"",
             Status::Usage => b"usage\n",
             Status::ReadFault => b"read fault\n",
             Status::WriteFault => b"",

@@ -4,3 +4,4 @@ pub mod Rows
 pub mod Scan
 pub mod Trace
 pub mod Verdict
+pub mod Refused

@@ -1,12 +1,13 @@
 //! The trace that a program runs on and the report that it gives.
 //!
 //! `pull_all` takes a whole input from a source, `read_rows` reads a trace held in memory, exactly by
-//! `docs/files.md`, "The trace", and the calls on a `LineBuffer` write the lines of a report and of a check, exactly by
+//! `docs/files.md`, "The trace", and the calls on a `LineBuffer` write the lines of a report, of a check and of a refusal, exactly by
 //! `docs/commands.md`, "The report" and "check", without taking memory.
 #![tactic(auto)]
 
 mod line;
 mod pull;
+mod refused;
 mod report;
 mod rows;
 #[cfg(test)]
@@ -14,6 +15,7 @@ mod tests;
 mod verdict;
 
 pub use pull::{Ending, Pulled, pull_all};
+pub use refused::refused_line;
 pub use report::{LineBuffer, bound_line, report_line, ticks_line, worst_line};
 pub use rows::{BadLine, Rows, read_rows};
 pub use verdict::{cert_line, image_line, no_line, yes_line};

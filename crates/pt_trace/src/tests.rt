@@ -1,8 +1,8 @@
 use crate::{
     BadLine, Ending, LineBuffer, Rows, bound_line, cert_line, image_line, no_line, pull_all,
-    read_rows, report_line, ticks_line, worst_line, yes_line,
+    read_rows, refused_line, report_line, ticks_line, worst_line, yes_line,
 };
-use pt_base::{Many, Text};
+use pt_base::{Many, Rule, Span, Text};
 use pt_outside::MemSource;
 use std::alloc::Global;
 use std::test::Fail;
@@ -151,5 +151,19 @@ fn check_lines(rt: HostRuntime) -> Result<(), Fail> {
     assert_eq!(rt; line.bytes(), b"image I10\n".as_slice());
     cert_line(7, &mut line);
     assert_eq!(rt; line.bytes(), b"cert K7\n".as_slice());
+    Ok(())
+}
+
+#[test]
+fn refusal_lines(rt: HostRuntime) -> Result<(), Fail> {
+    let mut line = LineBuffer::empty();
+    refused_line(Rule::S1, Span { from: 17, to: 17 }, &mut line);
+    assert_eq!(rt; line.bytes(), b"refused S1 17 17\n".as_slice());
+    let size = Span {
+        from: 1048576,
+        to: 1048576,
+    };
+    refused_line(Rule::Z1, size, &mut line);
+    assert_eq!(rt; line.bytes(), b"refused Z1 1048576 1048576\n".as_slice());
     Ok(())
 }

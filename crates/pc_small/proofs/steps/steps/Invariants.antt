@@ -1,9 +1,7 @@
-use Rattle.pc_small.specs.Words.{texts}
-use Rattle.pc_small.proofs.SoFar.{SteppedSoFar}
+use Rattle.std.proofs.Common.{◌≡◌, drop}
+use Rattle.pc_small.specs.Trees.{each, step_of}
+use Rattle.pc_small.proofs.Lists.{after}
 use Rattle.pc_small.proofs.steps.steps.Given as goal
 
-abbrev pub invariant-turns : goal.invariant-turns
-invariant-turns l = SteppedSoFar (texts l.names) (texts l.words) l.left l.room l.steps.items (texts l.rest)
-
-abbrev pub decreases-turns : goal.decreases-turns
-decreases-turns l = l.left
+abbrev pub invariant-loop-statement : goal.invariant-loop-statement
+invariant-loop-statement l = after l.steps.items (each (step_of l.declared) (drop l.statement-index l.body)) ≡ each (step_of l.declared) l.body

@@ -1,13 +1,10 @@
-use Rattle.std.proofs.Common.{Ok, ap, ◌∙◌}
-use Rattle.pretc_top.proofs.Loading.{load_fails}
+use Rattle.std.proofs.Common.{Ok, refl, sym, ap, subst, ◌∙◌}
+use Rattle.pretc_top.specs.declared.verdicts.Verdict.{Verdict}
+use Rattle.pretc_top.specs.Stages.{BuildFails, not_small}
 use Rattle.pretc_top.proofs.stages.load_image.Goals as goal
 
-pub returns-in-Err-clause-failed : goal.returns-in-Err-clause-failed
-returns-in-Err-clause-failed g c = load_fails c.in-Err.status c.args.program.now (g.H.Shelf.files c.args.shelf.now) (g.H.Shelf.load_faults c.args.shelf.now) (g.H.Shelf.load_faults c.load_text.new.shelf) c.in-Err.ensures.failed
-
 pub returns-in-Ok-None-clause-failed : goal.returns-in-Ok-None-clause-failed
-returns-in-Ok-None-clause-failed g c = record {
-  text = c.in-Ok.text;
-  held = c.in-Ok.ensures.held;
-  not_small = c.compile.ensures.not_small (c.in-Ok-None.is ∙ ap Ok c.in-Ok-None.field-0-is);
-}
+returns-in-Ok-None-clause-failed g c =
+    let Q : Verdict → Type 0 = λ v. BuildFails v.status c.args.program.now (g.H.Shelf.files c.args.shelf.now) (g.H.Shelf.load_faults c.args.shelf.now) (g.H.Shelf.load_faults c.load_program.new.shelf) v.line in
+    subst Q (sym c.said.ensures)
+    (not_small refl (record { tree = c.in-Ok.tree; loaded = c.in-Ok.ensures.loaded; not_small = c.compile.ensures.not_small (c.in-Ok-None.is ∙ ap Ok c.in-Ok-None.field-0-is) }) refl)

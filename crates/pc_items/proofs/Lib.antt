@@ -1,0 +1,5 @@
+pub mod Words
+pub mod Starts
+pub mod Parameters
+pub mod Locals
+pub mod Framed

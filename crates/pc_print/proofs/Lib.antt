@@ -1,0 +1,10 @@
+pub mod Pieces
+pub mod Walks
+pub mod Levels
+pub mod Bare
+pub mod Spelled
+pub mod Respelled
+pub mod Fronts
+pub mod Stands
+pub mod Sound
+pub mod Goods

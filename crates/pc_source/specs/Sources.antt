@@ -1,0 +1,39 @@
+-- Which texts are programs, and the first rule that another breaks: docs/language.md, "Refused programs".
+use Rattle.std.specs.Prelude.{◌≡◌, ℕ, ◌<◌, ◌≤◌, List, length, Option, Some, Result, Ok, Err}
+use Rattle.pt_base.specs.declared.Rule.{Rule}
+use Rattle.pt_base.specs.declared.Rule.TheVariants.{Z1}
+use Rattle.pt_base.specs.declared.Span.{Span}
+use Rattle.pt_base.specs.declared.Refusal.{Refusal}
+use Rattle.pt_base.specs.declared.Refusal.TheVariants.{Broken, Memory}
+use Rattle.pc_lex.specs.declared.Token.{Token}
+use Rattle.pc_lex.specs.Lexing.{Lexes, whole, broken}
+use Rattle.pc_ast.specs.declared.Program.{Program}
+use Rattle.pc_parse.specs.Programs.{IsProgram, IsBroken}
+
+-- the most bytes of a source
+abbrev pub source_most : ℕ
+source_most = 1048576
+
+-- the text's tokens spell this program
+pub record IsSource (text : List ℕ) (program : Program) : Type 0 where
+  pub short : length text ≤ source_most
+  pub tokens : List Token
+  pub cut : Lexes 0 text tokens whole
+  pub spelled : IsProgram text tokens program.items
+  pub length_is : program.length ≡ length text
+
+-- the end of the longest source
+abbrev pub most_place : Span
+most_place = record { from = source_most; to = source_most }
+
+-- The first rule that the text breaks, by size, tokens and grammar in this order, and its place.
+pub data Breaks (text : List ℕ) (rule : Rule) (span : Span) : Type 0 where
+  too_long : source_most < length text → rule ≡ Z1 → span ≡ most_place → Breaks text rule span
+  no_tokens : (tokens : List Token) → length text ≤ source_most → Lexes 0 text tokens (broken rule span.from span.to) → Breaks text rule span
+  no_program : (tokens : List Token) → length text ≤ source_most → Lexes 0 text tokens whole → IsBroken text tokens (length text) rule span → Breaks text rule span
+
+-- the program, or why there is none
+abbrev pub IsRead : List ℕ → Result Program Refusal → Type 0
+IsRead text (Ok program) = IsSource text program
+IsRead text (Err (Broken rule span)) = Breaks text rule span
+IsRead text (Err Memory) = Unit {0}

@@ -1,0 +1,5 @@
+pub mod Ends
+pub mod Unique
+pub mod Parts
+pub mod Steps
+pub mod Branches

@@ -1,0 +1,9 @@
+use Rattle.pretc_top.specs.declared.statuses.Status.TheVariants.{Done}
+use Rattle.pretc_top.specs.Go.{written_is}
+use Rattle.pretc_top.proofs.Answering.{answers_after}
+use Rattle.pretc_top.proofs.printing.finish_lines.Goals as goal
+
+pub returns-in-Ok-clause-answers : goal.returns-in-Ok-clause-answers
+returns-in-Ok-clause-answers g c =
+    answers_after Done c.args.text.now (written_is (g.O.Sink.written c.args.out.now) (g.O.Sink.faults c.args.out.now)) (written_is (g.O.Sink.written c.push_lines.new.out) (g.O.Sink.faults c.push_lines.new.out)) (written_is (g.O.Sink.written c.close.new.out) (g.O.Sink.faults c.close.new.out)) c.close.result
+    c.in-Ok.ensures.whole c.push_lines.ensures.cause.later c.close.ensures.answers

@@ -1,14 +1,12 @@
 -- What lexing and parsing come to, one after the other.
 use Rattle.std.proofs.Common.{◌≡◌, ◌≤◌, ℕ, List, Result, Ok, Err, IfOk, IfErr, length, ◌∙◌, subst}
-use Rattle.pt_base.specs.declared.Rule.{Rule}
-use Rattle.pt_base.specs.declared.Span.{Span}
 use Rattle.pt_base.specs.declared.Refusal.{Refusal}
 use Rattle.pt_base.specs.declared.Refusal.TheVariants.{Broken, Memory}
 use Rattle.pc_lex.specs.declared.Token.{Token}
 use Rattle.pc_lex.specs.Lexing as lexing
 use Rattle.pc_ast.specs.declared.Program.{Program}
 use Rattle.pc_parse.specs.Programs.{IsProgram, IsBroken, RefusedIn}
-use Rattle.pc_source.specs.Sources.{source_most, IsSource, Breaks, no_tokens, no_program, IsRead}
+use Rattle.pc_source.specs.Sources.{source_most, no_tokens, no_program, IsRead}
 
 pub unlexed : (text : List ℕ) (f : Refusal) → length text ≤ source_most → lexing.RefusedIn text f → IsRead text (Err f)
 unlexed text (Broken rule span) short l = no_tokens (l.0) short (l.1)

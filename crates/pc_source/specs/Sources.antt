@@ -1,5 +1,5 @@
 -- Which texts are programs, and the first rule that another breaks: docs/language.md, "Refused programs".
-use Rattle.std.specs.Prelude.{◌≡◌, ℕ, ◌<◌, ◌≤◌, List, length, Option, Some, Result, Ok, Err}
+use Rattle.std.specs.Prelude.{◌≡◌, ℕ, ◌<◌, ◌≤◌, List, length, Result, Ok, Err}
 use Rattle.pt_base.specs.declared.Rule.{Rule}
 use Rattle.pt_base.specs.declared.Rule.TheVariants.{Z1}
 use Rattle.pt_base.specs.declared.Span.{Span}

@@ -1,5 +1,5 @@
 -- How loads fail, and what two of them held.
-use Rattle.std.proofs.Common.{◌≤◌, ℕ, List, Option, Some, None, sym, subst, ◌∙◌, arith, inl, inr}
+use Rattle.std.proofs.Common.{◌≤◌, ℕ, List, Option, Some, None, subst, ◌∙◌, arith, inl, inr}
 use Rattle.pt_outside.specs.Counts.{Rose}
 use Rattle.pt_outside.specs.Files.{Files, KeepsFiles, Holds, Lacks}
 use Rattle.pretc_top.specs.declared.statuses.Status.{Status}

@@ -9,7 +9,7 @@ use Rattle.pretc_top.specs.declared.statuses.Status.{Status}
 use Rattle.pretc_top.specs.declared.statuses.Status.TheVariants.{Done, Refused, Usage, ReadFault, WriteFault, WantOfMemory, BadForm, NotAccepted, StoreFault, NotBuilt, NoFile}
 use Rattle.pretc_top.specs.Commands.{line_of}
 use Rattle.pretc_top.specs.Go.{Outside, IsBuilt, IsStored, GoEnds}
-use Rattle.pretc_top.specs.Stages.{StoreFails, TraceFails, FileFails, file_failed, file_lacks, file_memory, ProgramFails, program_missing, program_refused, program_memory, BuildFails, unread, not_small, build_memory}
+use Rattle.pretc_top.specs.Stages.{StoreFails, TraceFails, file_failed, file_lacks, file_memory, ProgramFails, program_missing, program_refused, program_memory, BuildFails, unread, not_small, build_memory}
 
 stores_after : (old mid new : Option Files) (name text : List ℕ) → KeepsFiles old mid → Stores mid new name text → Stores old new name text
 stores_after None mid new name text k s = tt

@@ -1,12 +1,12 @@
 -- What a status of `print` tells of its cause.
-use Rattle.std.proofs.Common.{◌≡◌, ◌≢◌, refl, ℕ, List, Option, ap, sym, ◌∙◌, arith}
+use Rattle.std.proofs.Common.{◌≡◌, ◌≢◌, refl, ℕ, List, Option, sym, arith}
 use Rattle.pt_outside.specs.Counts.{Rose}
 use Rattle.pt_outside.specs.Files.{Files, Lacks}
 use Rattle.pretc_top.specs.declared.statuses.Status.{Status}
 use Rattle.pretc_top.specs.declared.statuses.Status.TheVariants.{Done, Refused, ReadFault, WantOfMemory, NoFile}
 use Rattle.pretc_top.specs.Commands.{number_of}
 use Rattle.pretc_top.specs.Go.{IsRefusedProgram}
-use Rattle.pretc_top.specs.Stages.{FileFails, file_failed, file_lacks, file_memory, ProgramFails, program_missing, program_refused, program_memory}
+use Rattle.pretc_top.specs.Stages.{file_failed, file_lacks, file_memory, program_missing, program_refused, program_memory}
 use Rattle.pretc_top.specs.Print.{PrintCase, printed, not_read, print_memory}
 use Rattle.pretc_top.specs.Causes.{BreaksRule}
 use Rattle.pretc_top.proofs.CheckCausing.{other_number}

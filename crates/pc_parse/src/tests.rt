@@ -31,10 +31,12 @@ fn read(alloc: Global, bytes: &[u8]) -> Result<Vec<u8>, Refusal> {
 /// Where S1 is broken: the place of the first byte.
 fn refused(alloc: Global, bytes: &[u8]) -> Option<(usize, usize)> {
     match program(alloc, bytes) {
-        Err(Refusal::Broken {
-            rule: Rule::S1,
-            span,
-        }) => Some((span.from as usize, span.to as usize)),
+        Err(
+            Refusal::Broken {
+                rule: Rule::S1,
+                span,
+            },
+        ) => Some((span.from as usize, span.to as usize)),
         _ => None,
     }
 }
@@ -72,24 +74,75 @@ fn nested(
 fn trees_of_each_rule(rt: HostRuntime) -> Result<(), Fail> {
     let cases: [(&[u8], &[u8]); 20] = [
         (b"", b""),
-        (b"ReactiveInput int a = 0; ReactiveOutput int o = -1;", b">a0<o-n"),
-        (b"int x; int y = 4294967295; int z = - 4294967295; int v[4];", b".x0.y-n.znv[4]"),
-        (b"void f() {} void g(void) {} void h(int a, int b) {}", b"void f{}void g{}void h a b{}"),
-        (b"int f(int a) { int b; int c = a + 1; ; return b; }", b"int f a{b|c=(a?1)|;return b}"),
+        (
+            b"ReactiveInput int a = 0; ReactiveOutput int o = -1;",
+            b">a0<o-n",
+        ),
+        (
+            b"int x; int y = 4294967295; int z = - 4294967295; int v[4];",
+            b".x0.y-n.znv[4]",
+        ),
+        (
+            b"void f() {} void g(void) {} void h(int a, int b) {}",
+            b"void f{}void g{}void h a b{}",
+        ),
+        (
+            b"int f(int a) { int b; int c = a + 1; ; return b; }",
+            b"int f a{b|c=(a?1)|;return b}",
+        ),
         (b"void f() { x = 1; v[i] = x; }", b"void f{x=1;v[i]=x;}"),
-        (b"void f() { x = g(); v[0] = g(1, a+b); g(); g(x); }", b"void f{x=g();v[0]=g(1,(a?b),);g();g(x,);}"),
-        (b"void f() { { } {;} EOT; PAR(g, h); PAR(g); }", b"void f{{}{;}EOT;PAR g h;PAR g;}"),
-        (b"void f() { abort EOT; when pre (a); weak abort { } when pre (!a); }", b"void f{abort<EOT;>a;weak abort<{}>-a;}"),
-        (b"void f() { while (1) #3 ; while (a) { } }", b"void f{while 1#3<;>while a<{}>}"),
-        (b"void f() { if (a) ; if (b) x = 1; else y = 2; }", b"void f{if a<;>if b<x=1;>else<y=2;>}"),
-        (b"void f() { if (a) if (b) ; else EOT; }", b"void f{if a<if b<;>else<EOT;>>}"),
-        (b"void f() { if (a) if (b) ; else ; else EOT; }", b"void f{if a<if b<;>else<;>>else<EOT;>}"),
-        (b"void f() { if (a) while (b) if (c) ; else EOT; }", b"void f{if a<while b<if c<;>else<EOT;>>>}"),
-        (b"void f() { if (a) while (b) ; else EOT; }", b"void f{if a<while b<;>>else<EOT;>}"),
-        (b"void f() { while (a) if (b) ; else EOT; }", b"void f{while a<if b<;>else<EOT;>>}"),
-        (b"void f() { if (a) { if (b) ; } else EOT; }", b"void f{if a<{if b<;>}>else<EOT;>}"),
-        (b"void f() { if (a) abort if (b) ; when pre (c); else EOT; }", b"void f{if a<abort<if b<;>>c;>else<EOT;>}"),
-        (b"void f() { if (a) ; else if (b) ; else EOT; }", b"void f{if a<;>else<if b<;>else<EOT;>>}"),
+        (
+            b"void f() { x = g(); v[0] = g(1, a+b); g(); g(x); }",
+            b"void f{x=g();v[0]=g(1,(a?b),);g();g(x,);}",
+        ),
+        (
+            b"void f() { { } {;} EOT; PAR(g, h); PAR(g); }",
+            b"void f{{}{;}EOT;PAR g h;PAR g;}",
+        ),
+        (
+            b"void f() { abort EOT; when pre (a); weak abort { } when pre (!a); }",
+            b"void f{abort<EOT;>a;weak abort<{}>-a;}",
+        ),
+        (
+            b"void f() { while (1) #3 ; while (a) { } }",
+            b"void f{while 1#3<;>while a<{}>}",
+        ),
+        (
+            b"void f() { if (a) ; if (b) x = 1; else y = 2; }",
+            b"void f{if a<;>if b<x=1;>else<y=2;>}",
+        ),
+        (
+            b"void f() { if (a) if (b) ; else EOT; }",
+            b"void f{if a<if b<;>else<EOT;>>}",
+        ),
+        (
+            b"void f() { if (a) if (b) ; else ; else EOT; }",
+            b"void f{if a<if b<;>else<;>>else<EOT;>}",
+        ),
+        (
+            b"void f() { if (a) while (b) if (c) ; else EOT; }",
+            b"void f{if a<while b<if c<;>else<EOT;>>>}",
+        ),
+        (
+            b"void f() { if (a) while (b) ; else EOT; }",
+            b"void f{if a<while b<;>>else<EOT;>}",
+        ),
+        (
+            b"void f() { while (a) if (b) ; else EOT; }",
+            b"void f{while a<if b<;>else<EOT;>>}",
+        ),
+        (
+            b"void f() { if (a) { if (b) ; } else EOT; }",
+            b"void f{if a<{if b<;>}>else<EOT;>}",
+        ),
+        (
+            b"void f() { if (a) abort if (b) ; when pre (c); else EOT; }",
+            b"void f{if a<abort<if b<;>>c;>else<EOT;>}",
+        ),
+        (
+            b"void f() { if (a) ; else if (b) ; else EOT; }",
+            b"void f{if a<;>else<if b<;>else<EOT;>>}",
+        ),
         (b"void f() { x = (g); x = -v[i]; }", b"void f{x=g;x=-v[i];}"),
     ];
     for (text, want) in cases {

@@ -44,13 +44,77 @@ line "usage"; "$program" </dev/null >out; status=$?
 expect 2 wanted "no word"
 line "usage"; "$program" go "$first" "$first" </dev/null >out; status=$?
 expect 2 wanted "equal names"
-line "not built"; "$program" go "$top/README.md" im2 </dev/null >out; status=$?
-expect 12 wanted "a source that isn't small"; [ -e im2 ] && wrong "not small: an image is stored"
+printf 'void main() {\n  while (1)\n    EOT;\n}\n' >loop.pc
+line "not built"; "$program" go loop.pc im2 </dev/null >out; status=$?
+expect 12 wanted "a program that isn't small"; [ -e im2 ] && wrong "not small: an image is stored"
+printf 'void main() { EOT' >cut.pc
+line "refused S1 17 17"; "$program" go cut.pc im2 </dev/null >out; status=$?
+expect 1 wanted "a program that is cut short"; [ -e im2 ] && wrong "refused: an image is stored"
+line "refused S1 17 17"; "$program" print cut.pc </dev/null >out; status=$?
+expect 1 wanted "the text of a program that is cut short"
+# each example is its own canonical text
+for source in "$top"/examples/*.pc loop.pc; do
+  "$program" print "$source" </dev/null >out; status=$?
+  expect 0 "$source" "the text of $(basename "$source")"
+done
+# a program with every construct, in canonical form
+cat >every.pc <<'TEXT'
+ReactiveInput int a = 0;
+ReactiveOutput int o = -1;
+int x = 2147483647;
+int v[4];
+int f(int m, int n) {
+  int i;
+  int j = m * (n + 1) - -n;
+  v[i + 1] = j % 3 << 2;
+  return (m - n - (j - i)) / !(a && ~j || 0);
+}
+void t() {
+  while (1)
+    {
+      x = f(a, v[x]);
+      EOT;
+    }
+}
+void main() {
+  ;
+  {
+  }
+  if (a == 1 | x != 2 ^ 3 & x)
+    if (x <= a)
+      o = x >> 1;
+    else
+      o = - - -x;
+  while (x >= 0) #4
+    x = x - (a > x) - (a < x);
+  abort
+    weak abort
+      PAR(t, t);
+    when pre (a == 9);
+  when pre (x);
+  t();
+}
+TEXT
+"$program" print every.pc </dev/null >out; status=$?
+expect 0 every.pc "a program with every construct"
+# 31 loops in one another, the last at the deepest level that has a part, and 64 levels of an expression
+{
+  printf 'int x = 0;\nvoid main() {\n'
+  for level in $(seq 1 31); do printf "%$((2 * level))swhile (1)\n" ''; done
+  printf "%64s;\n" ''
+  printf '  x = '; for level in $(seq 1 64); do printf '!'; done; printf 'x;\n}\n'
+} >deep.pc
+"$program" print deep.pc </dev/null >out; status=$?
+expect 0 deep.pc "the deepest nesting"
+printf 'int x=0;void main(){x=(1+2)*x;EOT;}' >tight.pc
+printf 'int x = 0;\nvoid main() {\n  x = (1 + 2) * x;\n  EOT;\n}\n' >wanted
+"$program" print tight.pc </dev/null >out; status=$?
+expect 0 wanted "the canonical text"
 line "not built"; printf '4\nx\n' | "$program" go "$first" im3 >out; status=$?
 expect 12 wanted "a bad line"; [ -e im3 ] || wrong "a bad line: no image"
 head -c 1048577 /dev/zero | tr '\0' ' ' >long.pc
-line "not built"; "$program" go long.pc im4 </dev/null >out; status=$?
-expect 12 wanted "a source of 1,048,577 bytes"
+line "refused Z1 1048576 1048576"; "$program" go long.pc im4 </dev/null >out; status=$?
+expect 1 wanted "a source of 1,048,577 bytes"
 # check: the counter's certificate, and what is refused; the files stay as they were
 image="$top/examples/counter.im"; cert="$top/examples/counter.cert"
 line "yes bound 8 reached"; "$program" check "$image" "$cert" - </dev/null >out; status=$?

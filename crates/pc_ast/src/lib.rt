@@ -9,5 +9,5 @@ mod programs;
 mod statements;
 
 pub use expressions::{Expr, Goal, Word};
-pub use programs::{CellKind, Item, Program};
+pub use programs::{CellKind, Item};
 pub use statements::Stmt;

@@ -35,10 +35,3 @@ pub enum Item {
         result: Option<Expr<Word>>,
     },
 }
-
-/// The items of a source in order, and the number of its bytes.
-#[derive(Drop)]
-pub struct Program {
-    pub items: Items<Item>,
-    pub length: u32,
-}

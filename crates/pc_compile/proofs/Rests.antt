@@ -1,5 +1,5 @@
 -- From one rest of `main` to the next.
-use Rattle.std.proofs.Common.{◌≡◌, ℕ, zero, suc, ◌+◌, ◌<◌, ◌≤◌, ℤ, ◌+ℤ◌, Bool, true, false, ◌&&◌, ◌||◌, if◌then◌else◌, List, [], ◌∷◌, ◌++◌, drop, length, map, All, Option, Some, None, slice_get, slice_set, FitsSigned, refl, sym, ap, subst, ◌∙◌, arith, append_assoc, length-append, eq-eqb}
+use Rattle.std.proofs.Common.{◌≡◌, ℕ, zero, suc, ◌+◌, ◌<◌, ◌≤◌, ℤ, ◌+ℤ◌, Bool, true, false, ◌&&◌, ◌||◌, if◌then◌else◌, List, [], ◌∷◌, ◌++◌, drop, length, map, All, Option, Some, None, slice_get, slice_set, FitsSigned, refl, sym, ap, subst, ◌∙◌, arith, append_assoc, append-nil, length-append, eq-eqb}
 use Rattle.std.proofs.lemmas.Option.{slice_get_within}
 use Rattle.std.specs.Int.{w32, int_wrap}
 use Rattle.std.specs.List.{list_any}
@@ -88,10 +88,6 @@ is_the_pause at = ap (λ b. b && true && true) (eq-eqb at at refl)
 append_assoc_of : {A : Type 0} (xs ys zs : List A) → (xs ++ ys) ++ zs ≡ xs ++ (ys ++ zs)
 append_assoc_of xs ys zs = rw append_assoc
 
-append_nil : {A : Type 0} (xs : List A) → xs ++ [] ≡ xs
-append_nil [] = refl
-append_nil (x ∷ xs) = ap (λ l. x ∷ l) (append_nil xs)
-
 -- the steps that are left run to the next rest
 pub runs : (image : Parts) (costs : List ℕ) (cells : List Cell) (steps left : List Step) (number at : ℕ) (registers store : List ℤ)
     → IsCosts costs → length registers ≡ 32 → length store ≡ length cells → length cells ≤ 2000 → All (FitsSigned w32) store
@@ -149,7 +145,7 @@ runs image costs cells steps (Assign goal operands ∷ left) number at registers
     let those = steps_words left ++ End ∷ [] in
     let fit = lies.fit.0 in
     let within : goal < length cells = slice_get_within cells goal fit.0.0 fit.0.1 in
-    let there : drop at image.code ≡ map code_of (these ++ those) ++ [] = lies.code ∙ ap (map code_of) (append_assoc_of these (steps_words left) (End ∷ [])) ∙ sym (append_nil (map code_of (these ++ those))) in
+    let there : drop at image.code ≡ map code_of (these ++ those) ++ [] = lies.code ∙ ap (map code_of) (append_assoc_of these (steps_words left) (End ∷ [])) ∙ sym (append-nil (map code_of (these ++ those))) in
     let parts = behind image at these those [] there in
     let goes = assign_goes image costs cells registers store goal at operands (map code_of those ++ []) c fit.1 within fit.2 size few words regs parts.0 in
     let sum = sum_of operands store in
@@ -158,7 +154,7 @@ runs image costs cells steps (Assign goal operands ∷ left) number at registers
     let rest = runs image costs cells steps left number (at + length these) goes.0 (slice_set store goal sum) c goes.1 (length-set store goal sum ∙ size) few
     (All-set (FitsSigned w32) store goal sum (sum_fits cells operands store fit.2 size words fit.1) words)
     (record {
-      code = parts.1 ∙ append_nil (map code_of those);
+      code = parts.1 ∙ append-nil (map code_of those);
       pauses = lies.pauses;
       fit = lies.fit.1;
       few = omega arith;

@@ -1,7 +1,6 @@
 -- One lemma for each way on which the parsers of functions answer.
-use Rattle.std.proofs.Common.{◌≡◌, ℕ, ℤ, true, false, List, [], ◌∷◌, ◌++◌, Option, Some, None, length, refl, sym, ap, subst, ◌∙◌, append_assoc, append-nil}
-use Rattle.pc_lex.specs.declared.tokens.Sort.{Sort}
-use Rattle.pc_lex.specs.declared.tokens.Sort.TheVariants.{Number as NumberSort, Name, VoidWord, IntWord, ReactiveInputWord, ReactiveOutputWord, OpenParenthesis, CloseParenthesis, OpenBrace, CloseBrace, ReturnWord, Semicolon}
+use Rattle.std.proofs.Common.{◌≡◌, ℕ, true, false, List, [], ◌∷◌, ◌++◌, Some, None, length, refl, sym, ap, subst, ◌∙◌, append_assoc}
+use Rattle.pc_lex.specs.declared.tokens.Sort.TheVariants.{Number as NumberSort, Name, VoidWord, OpenParenthesis, CloseParenthesis, OpenBrace, CloseBrace, ReturnWord, Semicolon}
 use Rattle.pc_lex.specs.declared.tokens.Token.{Token}
 use Rattle.pc_ast.specs.declared.expressions.Word.{Word}
 use Rattle.pc_ast.specs.declared.expressions.Expr.{Expr}
@@ -11,20 +10,20 @@ use Rattle.pc_ast.specs.declared.programs.Item.TheVariants.{Function}
 use Rattle.pc_exprs.specs.declared.reading.Failure.{Failure}
 use Rattle.pc_exprs.specs.declared.reading.Failure.TheVariants.{Broken, Memory}
 use Rattle.pc_exprs.specs.declared.marks.Pair.TheVariants.{Result}
-use Rattle.pc_exprs.specs.Reading.{first, Comes, Takes, Fails, Refuses, Always}
+use Rattle.pc_exprs.specs.Reading.{first, Comes, Refuses, Always}
 use Rattle.pc_exprs.specs.Grammar.{word_at, SpellsBetween, between, BetweenTakes, BetweenFails}
 use Rattle.pc_exprs.proofs.Behind.{fails_behind, fails_here}
 use Rattle.pc_exprs.proofs.Operands.{some_token}
 use Rattle.pc_exprs.proofs.Pairs.{some_level}
 use Rattle.pc_exprs.proofs.Unique.{between_first, unique_between}
-use Rattle.pc_stmts.specs.Statements.{Closes, at_return, at_brace, none as no_parts}
+use Rattle.pc_stmts.specs.Statements.{Closes, at_return, none as no_parts}
 use Rattle.pc_stmts.proofs.Ends.{closes_same}
 use Rattle.pc_stmts.proofs.Unique.{brace_closes}
 use Rattle.pc_items.specs.declared.frames.Frame.{Frame}
 use Rattle.pc_items.specs.Frames.{SpellsFrame, framed, nothing, none, FrameEnds, FrameTakes, FrameFails}
 use Rattle.pc_items.proofs.Framed.{unique_frame, frame_first}
 use Rattle.pc_parse.specs.Items.{SpellsFunction, function, FunctionTakes, FunctionFails, SpellsItem, routine, ItemTakes, ItemFails}
-use Rattle.pc_parse.proofs.Openings.{RoutineAfter, as_routine}
+use Rattle.pc_parse.proofs.Openings.{as_routine}
 
 -- ---- a function with a result
 

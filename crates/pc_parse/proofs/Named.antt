@@ -1,5 +1,5 @@
 -- One lemma for each way on which the parser of what stands behind `int` and a name answers.
-use Rattle.std.proofs.Common.{◌≡◌, ℕ, ℤ, pos, List, [], ◌∷◌, ◌++◌, Option, Some, None, length, refl, sym, ap, subst, ◌∙◌, append-nil}
+use Rattle.std.proofs.Common.{◌≡◌, ℕ, ℤ, pos, List, [], ◌∷◌, ◌++◌, Option, Some, refl, sym, ap, subst, ◌∙◌, append-nil}
 use Rattle.pc_lex.specs.declared.tokens.Sort.{Sort}
 use Rattle.pc_lex.specs.declared.tokens.Sort.TheVariants.{Equals, OpenBracket, OpenParenthesis, Semicolon}
 use Rattle.pc_lex.specs.declared.tokens.Token.{Token}
@@ -9,7 +9,7 @@ use Rattle.pc_ast.specs.declared.programs.Item.{Item}
 use Rattle.pc_ast.specs.declared.programs.Item.TheVariants.{Scalar, Array}
 use Rattle.pc_exprs.specs.declared.reading.Failure.{Failure}
 use Rattle.pc_exprs.specs.declared.reading.Failure.TheVariants.{Broken, Memory}
-use Rattle.pc_exprs.specs.Reading.{first, Comes, Takes, Fails, Refuses, Always}
+use Rattle.pc_exprs.specs.Reading.{first, Comes, Refuses, Always}
 use Rattle.pc_exprs.proofs.Behind.{fails_behind}
 use Rattle.pc_items.specs.Constants.{SpellsStart, StartTakes, StartFails}
 use Rattle.pc_items.proofs.Starts.{start_first, unique_start}

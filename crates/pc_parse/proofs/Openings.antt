@@ -1,5 +1,5 @@
 -- An item, by what it begins with.
-use Rattle.std.proofs.Common.{◌≡◌, ℕ, false, List, [], ◌∷◌, ◌++◌, Option, Some, None, refl, sym, ap, subst, ◌∙◌, append_assoc}
+use Rattle.std.proofs.Common.{◌≡◌, ℕ, false, List, [], ◌∷◌, ◌++◌, Some, None, refl, sym, ap, subst, ◌∙◌, append_assoc}
 use Rattle.pc_lex.specs.declared.tokens.Sort.{Sort}
 use Rattle.pc_lex.specs.declared.tokens.Sort.TheVariants.{Name, VoidWord, IntWord, ReactiveInputWord, ReactiveOutputWord, CloseBrace}
 use Rattle.pc_lex.specs.declared.tokens.Token.{Token}
@@ -7,14 +7,14 @@ use Rattle.pc_ast.specs.declared.expressions.Word.{Word}
 use Rattle.pc_ast.specs.declared.programs.CellKind.TheVariants.{Input, Output}
 use Rattle.pc_ast.specs.declared.programs.Item.{Item}
 use Rattle.pc_ast.specs.declared.programs.Item.TheVariants.{Function}
-use Rattle.pc_exprs.specs.Reading.{first, Takes, Always}
+use Rattle.pc_exprs.specs.Reading.{first}
 use Rattle.pc_exprs.specs.Grammar.{word_at}
 use Rattle.pc_items.specs.declared.frames.Frame.{Frame}
 use Rattle.pc_items.specs.Frames.{SpellsParameter, parameter, SpellsFrame}
 use Rattle.pc_items.proofs.Parameters.{parameter_first}
 use Rattle.pc_parse.specs.declared.items.ItemOpening.{ItemOpening}
 use Rattle.pc_parse.specs.declared.items.ItemOpening.TheVariants.{Input as InputOpening, Output as OutputOpening, Int as IntOpening, Void as VoidOpening, Nothing as NothingOpening}
-use Rattle.pc_parse.specs.Items.{item_opening_of, SpellsReactive, SpellsNamedItem, SpellsItem, input, output, named, routine, ReactiveTakes}
+use Rattle.pc_parse.specs.Items.{item_opening_of, SpellsNamedItem, SpellsItem, input, output, named, routine, ReactiveTakes}
 
 pub input_opens : item_opening_of ReactiveInputWord ≡ InputOpening
 unfolding item_opening_of

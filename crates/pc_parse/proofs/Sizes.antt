@@ -1,8 +1,7 @@
 -- One lemma for each way on which the parsers of an array's size and of inputs and outputs answer.
-use Rattle.std.proofs.Common.{◌≡◌, ℕ, ℤ, pos, List, [], ◌∷◌, ◌++◌, Option, Some, None, length, refl, sym, ap, subst, ◌∙◌, append_assoc, append-nil}
+use Rattle.std.proofs.Common.{◌≡◌, ℕ, ℤ, pos, List, [], ◌∷◌, ◌++◌, Some, length, refl, sym, ap, subst, ◌∙◌, append_assoc, append-nil}
 use Rattle.pt_base.specs.Operators.{word_of}
-use Rattle.pc_lex.specs.declared.tokens.Sort.{Sort}
-use Rattle.pc_lex.specs.declared.tokens.Sort.TheVariants.{Number, Equals, OpenBracket, CloseBracket, Semicolon, IntWord}
+use Rattle.pc_lex.specs.declared.tokens.Sort.TheVariants.{Number, Equals, OpenBracket, CloseBracket, Semicolon}
 use Rattle.pc_lex.specs.declared.tokens.Token.{Token}
 use Rattle.pc_ast.specs.declared.expressions.Word.{Word}
 use Rattle.pc_ast.specs.declared.programs.CellKind.{CellKind}
@@ -10,14 +9,14 @@ use Rattle.pc_ast.specs.declared.programs.Item.{Item}
 use Rattle.pc_ast.specs.declared.programs.Item.TheVariants.{Scalar}
 use Rattle.pc_exprs.specs.declared.reading.Failure.{Failure}
 use Rattle.pc_exprs.specs.declared.reading.Failure.TheVariants.{Broken, Memory}
-use Rattle.pc_exprs.specs.Reading.{first, Comes, Takes, Fails, Refuses, Always}
+use Rattle.pc_exprs.specs.Reading.{first, Comes, Refuses, Always}
 use Rattle.pc_exprs.proofs.Behind.{fails_behind, fails_here}
 use Rattle.pc_exprs.proofs.Operands.{some_token}
 use Rattle.pc_phrases.specs.Lists.{AfterName}
 use Rattle.pc_phrases.specs.Settings.{NumberComes, NoNumber}
-use Rattle.pc_items.specs.Constants.{SpellsEnded, ended, SpellsStart, positive, StartTakes, StartFails}
+use Rattle.pc_items.specs.Constants.{ended, SpellsStart, positive, StartTakes, StartFails}
 use Rattle.pc_items.specs.Frames.{SpellsParameter, ParameterTakes, ParameterFails}
-use Rattle.pc_items.proofs.Parameters.{parameter_first, unique_parameter}
+use Rattle.pc_items.proofs.Parameters.{unique_parameter}
 use Rattle.pc_items.proofs.Starts.{unique_start}
 use Rattle.pc_parse.specs.Items.{SpellsSize, size, SpellsReactive, reactive, SizeTakes, SizeFails, ReactiveTakes, ReactiveFails}
 

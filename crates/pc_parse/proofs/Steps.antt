@@ -1,5 +1,5 @@
 -- One lemma for each way on which the parser of an item answers.
-use Rattle.std.proofs.Common.{◌≡◌, ℕ, false, pos, List, [], ◌∷◌, ◌++◌, Option, Some, None, length, refl, sym, ap, subst, ◌∙◌, append_assoc, append-nil}
+use Rattle.std.proofs.Common.{◌≡◌, ℕ, false, pos, List, [], ◌∷◌, ◌++◌, Some, None, length, refl, sym, ap, subst, ◌∙◌, append_assoc, append-nil}
 use Rattle.pc_lex.specs.declared.tokens.Sort.{Sort}
 use Rattle.pc_lex.specs.declared.tokens.Sort.TheVariants.{Semicolon, IntWord, Name}
 use Rattle.pc_lex.specs.declared.tokens.Token.{Token}
@@ -9,7 +9,7 @@ use Rattle.pc_ast.specs.declared.programs.Item.{Item}
 use Rattle.pc_ast.specs.declared.programs.Item.TheVariants.{Scalar, Function}
 use Rattle.pc_exprs.specs.declared.reading.Failure.{Failure}
 use Rattle.pc_exprs.specs.declared.reading.Failure.TheVariants.{Broken, Memory}
-use Rattle.pc_exprs.specs.Reading.{first, Comes, Takes, Fails, Refuses, Always}
+use Rattle.pc_exprs.specs.Reading.{first, Refuses, Always}
 use Rattle.pc_exprs.specs.Grammar.{word_at}
 use Rattle.pc_exprs.proofs.Behind.{fails_behind, fails_here}
 use Rattle.pc_exprs.proofs.Operands.{some_token}
@@ -19,11 +19,10 @@ use Rattle.pc_items.specs.declared.frames.Frame.{Frame}
 use Rattle.pc_items.specs.Frames.{SpellsParameter, ParameterTakes, ParameterFails}
 use Rattle.pc_items.proofs.Framed.{unique_frame}
 use Rattle.pc_items.proofs.Parameters.{some_parameter, unique_parameter}
-use Rattle.pc_parse.specs.declared.items.ItemOpening.{ItemOpening}
 use Rattle.pc_parse.specs.declared.items.ItemOpening.TheVariants.{Input as InputOpening, Output as OutputOpening, Int as IntOpening, Void as VoidOpening, Nothing as NothingOpening}
 use Rattle.pc_parse.specs.Items.{item_opening_of, SpellsReactive, SpellsNamedItem, plain, SpellsItem, input, output, named, routine, ReactiveTakes, ReactiveFails, NamedItemTakes, NamedItemFails, ItemTakes, ItemFails}
 use Rattle.pc_parse.proofs.Named.{unique_named_item}
-use Rattle.pc_parse.proofs.Openings.{input_opens, output_opens, int_opens, void_opens, is_input, is_output, is_int, ItemAfter, item_after, item_as, item_begins}
+use Rattle.pc_parse.proofs.Openings.{input_opens, output_opens, int_opens, void_opens, is_input, is_output, item_as, item_begins}
 use Rattle.pc_parse.proofs.Sizes.{unique_reactive}
 
 pub some_item : (source : List ℕ) → SpellsItem source ((some_token IntWord ∷ some_token Name ∷ []) ++ some_token Semicolon ∷ []) (Scalar Plain (word_at source (some_token Name)) (pos 0))

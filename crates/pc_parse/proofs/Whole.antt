@@ -1,17 +1,18 @@
 -- One lemma for each way on which the parser of a program answers, and the place of refusal.
-use Rattle.std.proofs.Common.{◌≡◌, ℕ, suc, ◌+◌, ◌-◌, ◌<◌, ◌≤◌, List, [], ◌∷◌, ◌++◌, Option, Some, None, length, drop, refl, sym, ap, subst, ◌∙◌, append_assoc, append-nil, length-append, arith}
+use Rattle.std.proofs.Common.{◌≡◌, ℕ, suc, ◌+◌, ◌-◌, ◌<◌, ◌≤◌, List, [], ◌∷◌, ◌++◌, length, drop, refl, sym, ap, subst, ◌∙◌, append_assoc, append-nil, length-append, arith}
 use Rattle.pt_base.specs.declared.rules.Rule.TheVariants.{S1}
 use Rattle.pt_base.specs.declared.rules.Span.{Span}
-use Rattle.pc_lex.specs.declared.tokens.Sort.{Sort}
 use Rattle.pc_lex.specs.declared.tokens.Token.{Token}
+use Rattle.pc_lex.specs.Lexing.{Lexes, whole}
 use Rattle.pc_ast.specs.declared.programs.Item.{Item}
 use Rattle.pc_exprs.specs.declared.reading.Failure.{Failure}
 use Rattle.pc_exprs.specs.declared.reading.Failure.TheVariants.{Broken, Memory}
-use Rattle.pc_exprs.specs.Reading.{first, Takes, Fails, Refuses, Always, AtEnd, IsRefused}
+use Rattle.pc_exprs.specs.Reading.{first, Takes, Refuses, Always, AtEnd}
 use Rattle.pc_exprs.proofs.Behind.{fails_behind}
 use Rattle.pc_exprs.proofs.Whole.{refused_where}
 use Rattle.pc_parse.specs.Items.{SpellsItem, ItemTakes, ItemFails}
 use Rattle.pc_parse.specs.Programs.{IsProgram, none, more, ProgramFails, OneProgram, span_at, IsBroken}
+use Rattle.pc_parse.specs.Trees.{IsTree}
 use Rattle.pc_parse.proofs.Openings.{item_begins}
 use Rattle.pc_parse.proofs.Steps.{unique_item}
 
@@ -120,4 +121,8 @@ broken_at source ts length_of left span f at =
 pub fails_within : (source : List ℕ) (ts : List Token) (left : ℕ) → ProgramFails source ts left → left ≤ length ts
 fails_within source ts left f = omega (arith, length-append f.before f.rest, ap length f.whole, f.count)
 
-pub ruleset parse_steps = (broken_at, fails_within)
+-- the tokens of a text spell its program
+pub is_tree : (text : List ℕ) (tokens : List Token) (items : List Item) (n : ℕ) → Lexes 0 text tokens whole → n ≡ length text → IsProgram text tokens items → IsTree (record { items = items; length = n })
+is_tree text tokens items n cut same spelled = record { source = text; tokens = tokens; cut = cut; spelled = spelled; length_is = same }
+
+pub ruleset parse_steps = (broken_at, fails_within, is_tree)

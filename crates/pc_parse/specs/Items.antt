@@ -1,5 +1,5 @@
 -- Which tokens spell an item: docs/language.md, "Items".
-use Rattle.std.specs.Prelude.{◌≡◌, ℕ, ℤ, pos, true, false, List, [], ◌∷◌, ◌++◌, Option, Some, None}
+use Rattle.std.specs.Prelude.{◌≡◌, ℕ, ℤ, pos, true, false, List, [], ◌∷◌, ◌++◌, Some, None}
 use Rattle.pc_lex.specs.declared.tokens.Sort.{Sort}
 use Rattle.pc_lex.specs.declared.tokens.Sort.TheVariants.{Name, Number, IntWord, VoidWord, ReactiveInputWord, ReactiveOutputWord, OpenBracket, CloseBracket, CloseBrace, Semicolon}
 use Rattle.pc_lex.specs.declared.tokens.Token.{Token}

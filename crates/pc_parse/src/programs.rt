@@ -1,9 +1,11 @@
 ghost use Rattle.std.specs.Prelude.{◌≡◌, ◌-◌, ◌≤◌, length, drop, IfOk, IfErr};
+ghost use Rattle.pc_lex.specs.Lexing.{Lexes, whole};
 ghost use Rattle.pc_exprs.specs.Reading.{Refuses};
 ghost use Rattle.pc_parse.specs.Programs.{IsProgram, ProgramFails, span_at, RefusedIn, OneProgram};
 
 use crate::items::item;
-use pc_ast::{Item, Program};
+use crate::trees::Program;
+use pc_ast::Item;
 use pc_exprs::{Failure, split};
 use pc_lex::{Token, Tokens};
 use pt_base::{Refusal, Rule, Span, Text};
@@ -47,19 +49,18 @@ fn place(rest: &[Token], length: u32) -> Span
     }
 }
 
-/// The program that the tokens spell, or the exact place of `S1`.
+/// The program that the tokens of a text spell, or the exact place of `S1`.
 #[tactic(auto, using(crate::proofs::Whole::parse_steps))]
 pub fn parse(alloc: Global, text: &Text, tokens: &Tokens) -> Result<Program, Refusal>
+    requires cut { Lexes 0 text.now tokens.now.tokens whole }
+    requires length { tokens.now.length ≡ length text.now }
     ensures program { IfOk result (λ p. IsProgram text.now tokens.now.tokens p.items) }
     ensures length { IfOk result (λ p. p.length ≡ tokens.now.length) }
     ensures refused { IfErr result (λ f. RefusedIn text.now tokens.now.tokens tokens.now.length f) }
 {
     let list = tokens.tokens.items();
     match all_items(alloc, text, list) {
-        Ok(items) => Ok(Program {
-            items,
-            length: tokens.length,
-        }),
+        Ok(items) => Ok(Program::of(items, tokens.length)),
         Err(Failure::Broken(left)) => {
             let span = place(last_tokens(list, left), tokens.length);
             Err(Refusal::Broken {

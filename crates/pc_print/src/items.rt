@@ -6,8 +6,9 @@ use crate::expressions::put_expression;
 use crate::lines::{put_equals, put_line_end, put_margin, put_mark_line, put_stop, split};
 use crate::marks::{put_blank, put_mark, put_signed, put_word};
 use crate::statements::put_statements;
-use pc_ast::{CellKind, Expr, Item, Program, Word};
+use pc_ast::{CellKind, Expr, Item, Word};
 use pc_lex::Sort;
+use pc_parse::Program;
 use pt_base::{Memory, Text};
 use pt_lines::put_number;
 use std::alloc::Global;
@@ -213,11 +214,18 @@ fn put_items(out: &mut Vec<u8>, all: &[Item]) -> Result<(), Memory>
     Ok(())
 }
 
+/// The canonical text of items.
+pub fn print_items(alloc: Global, all: &[Item]) -> Result<Text, Memory>
+    ensures { IfOk result (λ shown. shown ≡ text (items all.now)) }
+{
+    let mut out = Vec::new(alloc);
+    put_items(&mut out, all)?;
+    Ok(Text::from_vec(out))
+}
+
 /// The canonical text of a program.
 pub fn print(alloc: Global, program: &Program) -> Result<Text, Memory>
     ensures { IfOk result (λ text. text ≡ program_text program.now) }
 {
-    let mut out = Vec::new(alloc);
-    put_items(&mut out, program.items.as_slice())?;
-    Ok(Text::from_vec(out))
+    print_items(alloc, program.items())
 }

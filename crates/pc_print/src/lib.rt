@@ -12,8 +12,3 @@ pub use expressions::put_expression;
 pub use items::{print, put_item};
 pub use laws::{canonical_text_spells, canonical_tokens_spell};
 pub use statements::put_statement;
-
-#[cfg(test)]
-mod program_tests;
-#[cfg(test)]
-mod tests;

@@ -7,7 +7,8 @@ use crate::declarations::{all_distinct, cells};
 use crate::limits::{fits, has_few_operands};
 use crate::program::Small;
 use crate::steps::steps;
-use pc_ast::{Item, Program, Stmt, Word};
+use pc_ast::{Item, Stmt, Word};
+use pc_parse::Program;
 use pt_base::Memory;
 use std::alloc::Global;
 
@@ -77,8 +78,9 @@ fn short_parts(items: &[Item]) -> Option<(&[Item], &[Stmt<Word>])>
     Some((declared, body))
 }
 
+/// The small program that the items are, or none where they are none.
 #[tactic(auto, using(crate::proofs::Whole::readings))]
-fn read(alloc: Global, items: &[Item]) -> Result<Option<Small>, Memory>
+pub fn read(alloc: Global, items: &[Item]) -> Result<Option<Small>, Memory>
     ensures { IfOk result (λ found. IsReading items.now found) }
 {
     let Some((declared, body)) = short_parts(items) else {
@@ -100,7 +102,7 @@ fn read(alloc: Global, items: &[Item]) -> Result<Option<Small>, Memory>
 pub fn small_of(alloc: Global, program: &Program) -> Result<Option<Small>, Memory>
     ensures { IfOk result (λ found. IsReading program.now.items found) }
 {
-    read(alloc, program.items.as_slice())
+    read(alloc, program.items())
 }
 
 /// A tree is one small program.

@@ -4,8 +4,8 @@ use Rattle.pt_base.specs.declared.Refusal.{Refusal}
 use Rattle.pt_base.specs.declared.Refusal.TheVariants.{Broken, Memory}
 use Rattle.pc_lex.specs.declared.Token.{Token}
 use Rattle.pc_lex.specs.Lexing as lexing
-use Rattle.pc_ast.specs.declared.Program.{Program}
 use Rattle.pc_parse.specs.Programs.{IsProgram, IsBroken, RefusedIn}
+use Rattle.pc_parse.specs.Trees.{Program}
 use Rattle.pc_source.specs.Sources.{source_most, no_tokens, no_program, IsRead}
 
 pub unlexed : (text : List ℕ) (f : Refusal) → length text ≤ source_most → lexing.RefusedIn text f → IsRead text (Err f)

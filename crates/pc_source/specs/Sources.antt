@@ -7,8 +7,8 @@ use Rattle.pt_base.specs.declared.Refusal.{Refusal}
 use Rattle.pt_base.specs.declared.Refusal.TheVariants.{Broken, Memory}
 use Rattle.pc_lex.specs.declared.Token.{Token}
 use Rattle.pc_lex.specs.Lexing.{Lexes, whole, broken}
-use Rattle.pc_ast.specs.declared.Program.{Program}
 use Rattle.pc_parse.specs.Programs.{IsProgram, IsBroken}
+use Rattle.pc_parse.specs.Trees.{Program}
 
 -- the most bytes of a source
 abbrev pub source_most : ℕ

@@ -1,9 +1,8 @@
 ghost use Rattle.std.specs.Prelude.{◌≡◌};
 ghost use Rattle.pc_source.specs.Sources.{IsRead};
 
-use pc_ast::Program;
 use pc_lex::lex;
-use pc_parse::parse;
+use pc_parse::{Program, parse};
 use pt_base::{Refusal, Rule, Span, Text};
 use std::alloc::Global;
 

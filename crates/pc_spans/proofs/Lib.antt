@@ -1,0 +1,4 @@
+pub mod Equations
+pub mod Within
+pub mod Statements
+pub mod Items

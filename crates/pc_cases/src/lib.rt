@@ -1,0 +1,19 @@
+//! Tests of the front over whole sources, row by row: trees, places of refusal, canonical texts, small programs.
+//!
+//! `printed` and `small_program` keep the tree to themselves, for the tests here and above. They promise nothing, so that
+//! a test knows no more of a source than what it compares.
+#![tactic(auto)]
+
+#[cfg(test)]
+mod expression_tests;
+#[cfg(test)]
+mod parse_tests;
+#[cfg(test)]
+mod print_tests;
+#[cfg(test)]
+mod shown;
+#[cfg(test)]
+mod small_tests;
+mod texts;
+
+pub use texts::{printed, small_program};

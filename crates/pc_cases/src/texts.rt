@@ -1,0 +1,25 @@
+use pc_print::print;
+use pc_small::{Small, small_of};
+use pc_source::source_of;
+use pt_base::{Memory, Refusal, Text};
+use std::alloc::Global;
+
+/// The canonical text of a source's program, or nothing where the source is refused.
+pub fn printed(alloc: Global, source: &[u8]) -> Result<Option<Text>, Memory> {
+    let text = Text::of(alloc, source)?;
+    match source_of(alloc, &text) {
+        Ok(program) => Ok(Some(print(alloc, &program)?)),
+        Err(Refusal::Memory) => Err(Memory),
+        Err(_) => Ok(None),
+    }
+}
+
+/// The small program that a source is, or nothing where the source is refused or isn't small.
+pub fn small_program(alloc: Global, source: &[u8]) -> Result<Option<Small>, Memory> {
+    let text = Text::of(alloc, source)?;
+    match source_of(alloc, &text) {
+        Ok(program) => small_of(alloc, &program),
+        Err(Refusal::Memory) => Err(Memory),
+        Err(_) => Ok(None),
+    }
+}

@@ -4,4 +4,5 @@ pub mod Rows
 pub mod Scan
 pub mod Trace
 pub mod Verdict
+pub mod Accepted
 pub mod Refused

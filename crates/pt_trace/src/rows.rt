@@ -49,24 +49,11 @@ fn cut_line(bytes: &[u8]) -> Cut<'_>
     }
 }
 
-// A row of this many zeros.
-fn zeros(alloc: Global, width: u32) -> Result<Vec<i32>, Memory>
-    ensures { IfOk result (λ row. length row.items ≡ width) }
-{
-    let mut row = Vec::new(alloc);
-    for _place in 0..width {
-        if row.push(0).is_err() {
-            return Err(Memory);
-        }
-    }
-    Ok(row)
-}
-
 /// Reads a whole trace of rows with `width` numbers, up to its first bad line.
 pub fn read_rows(alloc: Global, bytes: &Text, width: u32) -> Result<Rows, Memory>
     ensures { IfOk result (λ rows. rows ≡ rows_of width bytes.now) }
 {
-    let mut row = zeros(alloc, width)?;
+    let mut row = vec![in alloc; 0; width as usize]?;
     let mut rows = Vec::new(alloc);
     let mut rest = bytes.bytes();
     let mut number = 1;

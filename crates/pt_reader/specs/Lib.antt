@@ -1,0 +1,4 @@
+pub mod Gathering
+pub mod Next
+pub mod Pulling
+pub mod Runs

@@ -1,0 +1,32 @@
+-- A function with numbers for names, put together.
+use Rattle.std.proofs.Common.{◌≡◌, ℕ, Bool, List, [], ◌∷◌, ◌++◌, Option, length, sym, ap, ◌∙◌}
+use Rattle.pc_ast.specs.declared.expressions.Word.{Word}
+use Rattle.pc_ast.specs.declared.expressions.Expr.{Expr}
+use Rattle.pc_ast.specs.declared.statements.Stmt.{Stmt}
+use Rattle.pc_ast.specs.declared.programs.Item.{Item}
+use Rattle.pc_ast.specs.declared.programs.Item.TheVariants.{Function as FunctionItem}
+use Rattle.pc_typed.specs.declared.typed.Function.{Function}
+use Rattle.pc_typed.specs.Places.{names_of, is_thread}
+use Rattle.pc_typed.specs.Typing.{cells_of, cell_number, function_number, numbered_value, numbers_from, typed_locals, typed_item}
+use Rattle.pc_names.specs.Chains.{numbered_statements}
+
+abbrev pub made : Word → Bool → Bool → List ℕ → List (ℕ × Option (Expr ℕ)) → List (Stmt ℕ) → Option (Expr ℕ) → Function
+made name thread gives parameters locals body result = record { name = name; thread = thread; gives = gives; parameters = parameters; locals = locals; body = body; result = result }
+
+module _ (all before : List Item) (item : Item) (name : Word) (gives : Bool) (parameters : List Word) (locals : List (Word × Option (Expr Word))) (body : List (Stmt Word)) (result : Option (Expr Word)) where
+  abbrev own : List Word
+  own = parameters ++ names_of locals
+
+  pub function_added : (old new : List Function) (copy : Word) (thread : Bool) (cells : List ℕ) (local_cells : List (ℕ × Option (Expr ℕ))) (statements : List (Stmt ℕ)) (value : Option (Expr ℕ)) →
+      item ≡ FunctionItem name gives parameters locals body result → new ≡ old ++ made copy thread gives cells local_cells statements value ∷ [] →
+      copy ≡ name → thread ≡ is_thread all name → cells ≡ numbers_from (length (cells_of before)) parameters → local_cells ≡ typed_locals before parameters locals →
+      statements ≡ numbered_statements (cell_number before own) (function_number before) body → value ≡ numbered_value (cell_number before own) result → new ≡ old ++ typed_item all before item
+  function_added old new copy thread cells local_cells statements value is added c t p l s v =
+      added
+      ∙ ap (λ x. old ++ made x thread gives cells local_cells statements value ∷ []) c
+      ∙ ap (λ x. old ++ made name x gives cells local_cells statements value ∷ []) t
+      ∙ ap (λ x. old ++ made name (is_thread all name) gives x local_cells statements value ∷ []) p
+      ∙ ap (λ x. old ++ made name (is_thread all name) gives (numbers_from (length (cells_of before)) parameters) x statements value ∷ []) l
+      ∙ ap (λ x. old ++ made name (is_thread all name) gives (numbers_from (length (cells_of before)) parameters) (typed_locals before parameters locals) x value ∷ []) s
+      ∙ ap (λ x. old ++ made name (is_thread all name) gives (numbers_from (length (cells_of before)) parameters) (typed_locals before parameters locals) (numbered_statements (cell_number before own) (function_number before) body) x ∷ []) v
+      ∙ ap (λ i. old ++ typed_item all before i) (sym is)

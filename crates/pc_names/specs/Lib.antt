@@ -1,0 +1,3 @@
+pub mod Known
+pub mod Chains
+pub mod Resolving

@@ -1,0 +1,15 @@
+//! Names: which cell or function each name of a program is, or the first rule on names that is broken
+//! (`docs/language.md`, "Names").
+//!
+//! Its contract: `resolve` gives the tree with numbers for names, where none of the rules N1 to N8 is broken, or the first of
+//! them that is, with its place. `pc_faults` looks for that rule; what is left here is the walk that gives each cell and each
+//! function its number.
+#![tactic(auto)]
+
+mod cells;
+mod functions;
+mod known;
+mod resolving;
+mod trees;
+
+pub use resolving::resolve;

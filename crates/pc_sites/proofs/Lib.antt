@@ -1,0 +1,5 @@
+pub mod Lists
+pub mod Places
+pub mod Walks
+pub mod Seeing
+pub mod Threading

@@ -1,0 +1,151 @@
+-- The rules on names, each as a condition on the whole program, and the first that is broken: docs/language.md, "Names".
+use Rattle.std.specs.Prelude.{◌≡◌, ℕ, ◌<◌, ◌≤◌, Bool, true, false, ◌||◌, ◌&&◌, not, List, [], ◌∷◌, ◌++◌, Option, Some, None, Contains, find, length, nat_eq}
+use Rattle.std.specs.List.{list_any}
+use Rattle.pt_base.specs.declared.Rule.{Rule}
+use Rattle.pt_base.specs.declared.Rule.TheVariants.{Z1, L1, L2, L3, S1, N1, N2, N3, N4, N5, N6, N7, N8, E1, E2, Z2, Z3, Z4, Z5, Z6, Z7, Z8, Z9}
+use Rattle.pt_base.specs.declared.Span.{Span}
+use Rattle.pc_ast.specs.declared.expressions.Word.{Word}
+use Rattle.pc_ast.specs.declared.programs.CellKind.{CellKind}
+use Rattle.pc_ast.specs.declared.programs.CellKind.TheVariants.{Input}
+use Rattle.pc_ast.specs.declared.programs.Item.{Item}
+use Rattle.pc_ast.specs.declared.programs.Item.TheVariants.{Scalar, Array, Function}
+use Rattle.pc_typed.specs.declared.roles.Role.{Role}
+use Rattle.pc_typed.specs.declared.roles.Role.TheVariants.{Reads, ReadsElement, Writes, WritesElement, Calls, Starts}
+use Rattle.pc_typed.specs.Uses.{holds_pause}
+use Rattle.pc_typed.specs.Places.{Place, places, Found, Unknown, Own, Known, found, word_of, same_text, is_among, has_name, names_of, is_start, is_main, is_thread}
+
+-- ---- the wrong kind
+
+-- what may not be done with a cell of one word
+abbrev pub wrong_for_word : Role → Bool
+wrong_for_word Reads = false
+wrong_for_word Writes = false
+wrong_for_word _ = true
+
+abbrev pub wrong_for_array : Role → Bool
+wrong_for_array ReadsElement = false
+wrong_for_array WritesElement = false
+wrong_for_array _ = true
+
+abbrev pub is_some_word : List Word → Bool
+is_some_word [] = false
+is_some_word (w ∷ ws) = true
+
+-- a function is called where it is no thread, with a target only where it has a result; a `PAR` names a `void` function
+-- without parameters
+abbrev pub wrong_for_function : Bool → Bool → List Word → Role → Bool
+wrong_for_function thread gives parameters (Calls arguments taken) = thread || (taken && not gives)
+wrong_for_function thread gives parameters Starts = gives || is_some_word parameters
+wrong_for_function thread gives parameters _ = true
+
+abbrev pub wrong_for_item : List Item → Item → Role → Bool
+wrong_for_item items (Scalar kind name start) role = wrong_for_word role
+wrong_for_item items (Array name size) role = wrong_for_array role
+wrong_for_item items (Function name gives parameters locals body result) role = wrong_for_function (is_thread items name) gives parameters role
+
+unfoldable pub is_wrong : List Item → Role → Found → Bool
+is_wrong items role Unknown = false
+is_wrong items role Own = wrong_for_word role
+is_wrong items role (Known item) = wrong_for_item items item role
+
+-- ---- the other rules at a place
+
+abbrev pub is_written : Role → Bool
+is_written Writes = true
+is_written WritesElement = true
+is_written _ = false
+
+abbrev pub is_input_kind : CellKind → Bool
+is_input_kind Input = true
+is_input_kind _ = false
+
+abbrev pub is_input : Found → Bool
+is_input (Known (Scalar kind name start)) = is_input_kind kind
+is_input _ = false
+
+-- whether a call has another number of arguments than what it names has parameters
+abbrev pub is_miscounted : Role → Found → Bool
+is_miscounted (Calls arguments taken) (Known (Function name gives parameters locals body result)) = not (nat_eq arguments (length parameters))
+is_miscounted _ _ = false
+
+-- ---- items and functions
+
+-- `void main` without parameters
+abbrev pub is_main_item : Item → Bool
+is_main_item (Function name false [] locals body result) = is_main name
+is_main_item _ = false
+
+abbrev pub is_named_main : Item → Bool
+is_named_main item = is_main (word_of item)
+
+abbrev pub end_of : ℕ → Span
+end_of length = record { from = length; to = length }
+
+-- the name of the first item `main`, or the end
+abbrev pub main_place : ℕ → Option Item → Span
+main_place length None = end_of length
+main_place length (Some item) = (word_of item).span
+
+-- the names that a function declares, in order
+abbrev pub own_of : Item → List Word
+own_of (Function name gives parameters locals body result) = parameters ++ names_of locals
+own_of _ = []
+
+abbrev pub holds_some_pause : Item → Bool
+holds_some_pause (Function name gives parameters locals body result) = list_any holds_pause body
+holds_some_pause _ = false
+
+-- a place in a `PAR` that has this name
+abbrev pub starts_text : Word → Place → Bool
+starts_text w p = is_start p.role && same_text w p.word
+
+-- ---- what is broken, and where
+
+pub data Breaks (items : List Item) (end : ℕ) : Rule → Span → Type 0 where
+  item_twice : (before after : List Item) (i : Item) → items ≡ before ++ i ∷ after → list_any (has_name (word_of i)) before ≡ true → Breaks items end N1 (word_of i).span
+  own_twice : (i : Item) (before after : List Word) (w : Word) → Contains items i → own_of i ≡ before ++ w ∷ after → is_among w before ≡ true → Breaks items end N1 w.span
+  unknown : (p : Place) → Contains (places items) p → found p ≡ Unknown → Breaks items end N2 p.word.span
+  wrong_kind : (p : Place) → Contains (places items) p → is_wrong items p.role (found p) ≡ true → Breaks items end N3 p.word.span
+  input_written : (p : Place) → Contains (places items) p → is_written p.role ≡ true → is_input (found p) ≡ true → Breaks items end N4 p.word.span
+  miscounted : (p : Place) → Contains (places items) p → is_miscounted p.role (found p) ≡ true → Breaks items end N5 p.word.span
+  no_main : list_any is_main_item items ≡ false → Breaks items end N6 (main_place end (find is_named_main items))
+  started_twice : (before after : List Place) (p : Place) → places items ≡ before ++ p ∷ after → is_start p.role ≡ true →
+      is_main p.word || list_any (starts_text p.word) before ≡ true → Breaks items end N7 p.word.span
+  no_thread : (i : Item) → Contains items i → is_thread items (word_of i) ≡ false → holds_some_pause i ≡ true → Breaks items end N8 (word_of i).span
+
+-- ---- the first
+
+abbrev pub number_of : Rule → ℕ
+number_of Z1 = 0
+number_of L1 = 1
+number_of L2 = 2
+number_of L3 = 3
+number_of S1 = 4
+number_of N1 = 5
+number_of N2 = 6
+number_of N3 = 7
+number_of N4 = 8
+number_of N5 = 9
+number_of N6 = 10
+number_of N7 = 11
+number_of N8 = 12
+number_of E1 = 13
+number_of E2 = 14
+number_of Z2 = 15
+number_of Z3 = 16
+number_of Z4 = 17
+number_of Z5 = 18
+number_of Z6 = 19
+number_of Z7 = 20
+number_of Z8 = 21
+number_of Z9 = 22
+
+-- by the start of the span, then by the rule
+pub data ComesFirst (rule other : Rule) (span another : Span) : Type 0 where
+  earlier : span.from < another.from → ComesFirst rule other span another
+  here : span.from ≡ another.from → number_of rule ≤ number_of other → ComesFirst rule other span another
+
+-- of what is broken by `B` this comes first
+pub record IsFirst (B : Rule → Span → Type 0) (rule : Rule) (span : Span) : Type 0 where
+  pub broken : B rule span
+  pub least : (other : Rule) (another : Span) → B other another → ComesFirst rule other span another

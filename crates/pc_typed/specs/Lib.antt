@@ -1,0 +1,6 @@
+pub mod Uses
+pub mod Places
+pub mod Breaking
+pub mod Typing
+pub mod Keeping
+pub mod Finishing

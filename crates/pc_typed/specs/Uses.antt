@@ -1,0 +1,104 @@
+-- Where a statement or an expression names something, in the order of the text: docs/language.md, "Names".
+use Rattle.std.specs.Prelude.{Bool, true, false, ◌||◌, List, [], ◌∷◌, ◌++◌, Option, Some, None, map, length}
+use Rattle.pt_base.specs.declared.operators.BinOp.{BinOp}
+use Rattle.pc_ast.specs.declared.expressions.Word.{Word}
+use Rattle.pc_ast.specs.declared.expressions.Expr.{Expr, fold-Expr}
+use Rattle.pc_ast.specs.declared.expressions.Expr.TheOpen.{Expr-F, Number, Var, Elem, Unary, Chain}
+use Rattle.pc_ast.specs.declared.expressions.Goal.{Goal}
+use Rattle.pc_ast.specs.declared.expressions.Goal.TheVariants.{Nothing, Var as GoalVar, Elem as GoalElem}
+use Rattle.pc_ast.specs.declared.statements.Stmt.{Stmt, fold-Stmt}
+use Rattle.pc_ast.specs.declared.statements.Stmt.TheOpen.{Stmt-F, Skip, Assign, Call, Block, If, While, Eot, Par, Abort}
+use Rattle.pc_typed.specs.declared.roles.Role.{Role}
+use Rattle.pc_typed.specs.declared.roles.Role.TheVariants.{Reads, ReadsElement, Writes, WritesElement, Calls, Starts}
+
+-- a name, and what it does where it stands
+pub record Use : Type 0 where
+  pub role : Role
+  pub word : Word
+
+abbrev pub use_of : Role → Word → Use
+use_of role word = record { role = role; word = word }
+
+abbrev pub joined : {A : Type 0} → List (List A) → List A
+joined [] = []
+joined (l ∷ rest) = l ++ joined rest
+
+-- ---- expressions
+
+abbrev pub operands_uses : List (BinOp × List Use) → List Use
+operands_uses [] = []
+operands_uses (p ∷ rest) = p.1 ++ operands_uses rest
+
+abbrev pub expression_step : Expr-F Word (List Use) → List Use
+expression_step (Number n) = []
+expression_step (Var w) = use_of Reads w ∷ []
+expression_step (Elem w index) = use_of ReadsElement w ∷ index
+expression_step (Unary op e) = e
+expression_step (Chain first rest) = first ++ operands_uses rest
+
+abbrev pub expression_uses : Expr Word → List Use
+expression_uses = fold-Expr Word (List Use) expression_step
+
+abbrev pub expressions_uses : List (Expr Word) → List Use
+expressions_uses es = joined (map expression_uses es)
+
+abbrev pub value_uses : Option (Expr Word) → List Use
+value_uses None = []
+value_uses (Some e) = expression_uses e
+
+-- ---- statements
+
+abbrev pub goal_uses : Goal Word → List Use
+goal_uses Nothing = []
+goal_uses (GoalVar w) = use_of Writes w ∷ []
+goal_uses (GoalElem w index) = use_of WritesElement w ∷ expression_uses index
+
+abbrev pub is_taken : Goal Word → Bool
+is_taken Nothing = false
+is_taken (GoalVar w) = true
+is_taken (GoalElem w index) = true
+
+abbrev pub else_uses : Option (List Use) → List Use
+else_uses None = []
+else_uses (Some uses) = uses
+
+abbrev pub statement_step : Stmt-F Word (List Use) → List Use
+statement_step Skip = []
+statement_step (Assign goal value) = goal_uses goal ++ expression_uses value
+statement_step (Call goal function arguments) = goal_uses goal ++ (use_of (Calls (length arguments) (is_taken goal)) function ∷ expressions_uses arguments)
+statement_step (Block all) = joined all
+statement_step (If test first second) = expression_uses test ++ (first ++ else_uses second)
+statement_step (While span test most body) = expression_uses test ++ body
+statement_step (Eot span) = []
+statement_step (Par span threads) = map (use_of Starts) threads
+statement_step (Abort span weak body test) = body ++ expression_uses test
+
+abbrev pub statement_uses : Stmt Word → List Use
+statement_uses = fold-Stmt Word (List Use) statement_step
+
+abbrev pub statements_uses : List (Stmt Word) → List Use
+statements_uses all = joined (map statement_uses all)
+
+-- ---- pauses: whether `EOT`, `PAR` or an abort stands in a statement
+
+abbrev pub any_of : List Bool → Bool
+any_of [] = false
+any_of (b ∷ rest) = b || any_of rest
+
+abbrev pub else_pauses : Option Bool → Bool
+else_pauses None = false
+else_pauses (Some b) = b
+
+abbrev pub pauses_step : {N : Type 0} → Stmt-F N Bool → Bool
+pauses_step Skip = false
+pauses_step (Assign goal value) = false
+pauses_step (Call goal function arguments) = false
+pauses_step (Block all) = any_of all
+pauses_step (If test first second) = first || else_pauses second
+pauses_step (While span test most body) = body
+pauses_step (Eot span) = true
+pauses_step (Par span threads) = true
+pauses_step (Abort span weak body test) = true
+
+abbrev pub holds_pause : {N : Type 0} → Stmt N → Bool
+holds_pause {N} = fold-Stmt N Bool pauses_step

@@ -1,0 +1,191 @@
+ghost use Rattle.std.specs.Prelude.{◌≡◌, ◌+◌, min, fold, map, None};
+ghost use Rattle.pc_typed.specs.Uses.{holds_pause, any_of};
+ghost use Rattle.pc_typed.specs.Finishing.{finishing};
+ghost use Rattle.pc_rules.specs.Marks.{Loop, Aborted, joined, one_more, marks, function_marks};
+ghost use Rattle.pc_first.specs.First.{first_of};
+ghost use Rattle.pc_rules.specs.Faults.{nesting_faults_at, note_mark};
+
+use pc_ast::Stmt;
+use pc_first::First;
+use pc_typed::{Function, Typed, may_finish};
+use pt_base::{Rule, Span};
+
+/// How many aborts of a function, and how many of its loops with `#n`, an abort or such a loop may not stand in.
+const DEEP: u32 = 8;
+
+/// The first fault of the rules on loops, and the first of the limits.
+#[derive(Clone, Copy)]
+pub struct Noted {
+    pub rules: First,
+    pub limits: First,
+}
+
+impl Noted {
+    /// Nothing was noted.
+    pub fn nothing() -> Noted
+        ensures { result ≡ record { rules = None; limits = None } }
+    {
+        Noted {
+            rules: First::nothing(),
+            limits: First::nothing(),
+        }
+    }
+
+    fn at_loop(
+        self,
+        typed: &Typed,
+        span: Span,
+        most: Option<u32>,
+        body: &Stmt<u32>,
+        loops: u32,
+    ) -> Noted
+        ensures { result ≡ note_mark (finishing typed.now.functions) self (Loop span most body.now loops) }
+    {
+        match most {
+            None => Noted {
+                rules: self.rules.note_if(may_finish(typed, body), Rule::E1, span),
+                limits: self.limits,
+            },
+            Some(_) => Noted {
+                rules: self.rules.note_if(holds(body), Rule::E2, span),
+                limits: self.limits.note_if(loops >= DEEP, Rule::Z5, span),
+            },
+        }
+    }
+
+    fn at_abort(self, span: Span, aborts: u32) -> Noted
+        ensures { result ≡ record { rules = self.rules; limits = first_of self.limits (nesting_faults_at (Aborted span aborts)) } }
+    {
+        Noted {
+            rules: self.rules,
+            limits: self.limits.note_if(aborts >= DEEP, Rule::Z4, span),
+        }
+    }
+}
+
+/// Whether `EOT`, `PAR` or an abort stands in a statement.
+#[cycle(holds)]
+fn holds(s: &Stmt<u32>) -> bool
+    ensures { result ≡ holds_pause s.now }
+{
+    match s {
+        Stmt::Skip => false,
+        Stmt::Assign { .. } => false,
+        Stmt::Call { .. } => false,
+        Stmt::Block(all) => some_holds(all.as_slice()),
+        Stmt::If { test: _, yes, no } => {
+            if holds(yes.get()) {
+                return true;
+            }
+            match no {
+                None => false,
+                Some(no) => holds(no.get()),
+            }
+        }
+        Stmt::While {
+            span: _,
+            test: _,
+            most: _,
+            body,
+        } => holds(body.get()),
+        Stmt::Eot(_) => true,
+        Stmt::Par { .. } => true,
+        Stmt::Abort { .. } => true,
+    }
+}
+
+#[cycle(holds)]
+fn some_holds(all: &[Stmt<u32>]) -> bool
+    ensures { result ≡ any_of (map holds_pause all.now) }
+{
+    for s in all {
+        if holds(s) {
+            return true;
+        }
+    }
+    false
+}
+
+fn deeper(n: u32) -> u32
+    ensures { result ≡ min 8 (n + 1) }
+{
+    n.saturating_add(1).min(DEEP)
+}
+
+fn within(most: Option<u32>, loops: u32) -> u32
+    ensures { result ≡ min 8 (one_more most loops) }
+{
+    match most {
+        None => loops.min(DEEP),
+        Some(_) => deeper(loops),
+    }
+}
+
+/// The loops and aborts of a statement that stands in so many aborts and loops with `#n`.
+#[cycle(walk)]
+#[tactic(auto, using(crate::proofs::Walks::walk_steps))]
+fn walk(s: &Stmt<u32>, typed: &Typed, noted: Noted, aborts: u32, loops: u32) -> Noted
+    ensures { result ≡ fold (note_mark (finishing typed.now.functions)) noted (marks s.now aborts loops) }
+{
+    match s {
+        Stmt::Skip => noted,
+        Stmt::Assign { .. } => noted,
+        Stmt::Call { .. } => noted,
+        Stmt::Block(all) => walk_all(all.as_slice(), typed, noted, aborts, loops),
+        Stmt::If { test: _, yes, no } => {
+            let first = walk(yes.get(), typed, noted, aborts, loops);
+            match no {
+                None => first,
+                Some(no) => walk(no.get(), typed, first, aborts, loops),
+            }
+        }
+        Stmt::While {
+            span,
+            test: _,
+            most,
+            body,
+        } => {
+            let here = noted.at_loop(typed, *span, *most, body.get(), loops);
+            walk(body.get(), typed, here, aborts, within(*most, loops))
+        }
+        Stmt::Eot(_) => noted,
+        Stmt::Par { .. } => noted,
+        Stmt::Abort {
+            span,
+            weak: _,
+            body,
+            test: _,
+        } => {
+            let here = noted.at_abort(*span, aborts);
+            walk(body.get(), typed, here, deeper(aborts), loops)
+        }
+    }
+}
+
+#[cycle(walk)]
+fn walk_all(all: &[Stmt<u32>], typed: &Typed, noted: Noted, aborts: u32, loops: u32) -> Noted
+    ensures { result ≡ fold (note_mark (finishing typed.now.functions)) noted (joined (map (λ s. marks s aborts loops) all.now)) }
+{
+    let mut total = noted;
+    for s in all {
+        total = walk(s, typed, total, aborts, loops);
+    }
+    total
+}
+
+fn of_function(f: &Function, typed: &Typed, noted: Noted) -> Noted
+    ensures { result ≡ fold (note_mark (finishing typed.now.functions)) noted (function_marks f.now) }
+{
+    walk_all(f.body.as_slice(), typed, noted, 0, 0)
+}
+
+/// The loops and aborts of functions of a program.
+pub fn of_functions(functions: &[Function], typed: &Typed, noted: Noted) -> Noted
+    ensures { result ≡ fold (note_mark (finishing typed.now.functions)) noted (joined (map function_marks functions.now)) }
+{
+    let mut total = noted;
+    for f in functions {
+        total = of_function(f, typed, total);
+    }
+    total
+}

@@ -1,0 +1,23 @@
+use Rattle.std.proofs.Common.{Result, subst}
+use Rattle.pt_base.specs.declared.Refusal.{Refusal}
+use Rattle.pc_parse.specs.Trees.{Program}
+use Rattle.pc_source.specs.Sources.{IsRead}
+use Rattle.pc_typed.specs.Typing.{Typing}
+use Rattle.pc_names.specs.Resolving.{IsResolved}
+use Rattle.pc_verdict.proofs.Phases.{source_refused, names_refused, rules_refused}
+use Rattle.pc_verdict.proofs.judging.judged.Goals as goal
+
+pub returns-in-Err : goal.returns-in-Err
+returns-in-Err c = source_refused c.args.text.now c.source_of.result c.in-Err.refusal c.in-Err.is c.source_of.ensures
+
+pub returns-in-Err-resolve : goal.returns-in-Err-resolve
+returns-in-Err-resolve c =
+    let P : Result Program Refusal → Type 0 = λ r. IsRead c.args.text.now r in
+    names_refused c.args.text.now c.in-Ok.program c.resolve.result c.in-Err-resolve.refusal c.in-Err-resolve.is (subst P c.in-Ok.is c.source_of.ensures) c.resolve.ensures
+
+pub returns-in-Err-judge : goal.returns-in-Err-judge
+returns-in-Err-judge c =
+    let P : Result Program Refusal → Type 0 = λ r. IsRead c.args.text.now r in
+    let Q : Result Typing Refusal → Type 0 = λ r. IsResolved c.in-Ok.program r in
+    rules_refused c.args.text.now c.in-Ok.program c.in-Ok-resolve.typed c.judge.result c.in-Err-judge.refusal c.in-Err-judge.is (subst P c.in-Ok.is c.source_of.ensures)
+    (subst Q c.in-Ok-resolve.is c.resolve.ensures) c.judge.ensures

@@ -1,15 +1,25 @@
 //! The top call over objects in memory: its reports, its statuses, and each load, store, pull, push and flush
-//! that fails in turn, for `go` and for `check`. Beside it, the slow meaning of programs and the ticks of the machine, row by row.
+//! that fails in turn, for `go`, `print`, `rules` and `check`. Beside it, the slow meaning of programs and the ticks of the machine, row by row.
+//!
+//! There is nothing here but tests and what they call. The helpers promise nothing, so that a test knows no more of a
+//! call than whether it came as wanted.
 #![tactic(auto)]
 
+#[cfg(test)]
 mod calls;
 #[cfg(test)]
 mod check_tests;
+#[cfg(test)]
 mod checks;
 #[cfg(test)]
-mod tests;
+mod go_tests;
+#[cfg(test)]
+mod meaning_tests;
+#[cfg(test)]
+mod operator_tests;
+#[cfg(test)]
+mod print_tests;
+#[cfg(test)]
+mod rules_tests;
+#[cfg(test)]
 mod ticks;
-
-pub use calls::{Outside, Wanted, comes_so};
-pub use checks::{Met, checks_so};
-pub use ticks::both_ways;

@@ -3,16 +3,17 @@ use Rattle.std.proofs.Common.{◌≡◌, ◌⊎◌, inl, inr, ℕ, List, Option,
 use Rattle.pt_outside.specs.Counts.{Rose}
 use Rattle.pretc_top.specs.declared.statuses.Status.{Status}
 use Rattle.pretc_top.specs.declared.statuses.Status.TheVariants.{Done, Refused, Usage, ReadFault, WriteFault, WantOfMemory, BadForm, NotAccepted, StoreFault, NotBuilt, NoFile}
-use Rattle.pretc_top.specs.Commands.{Command, Go, Check, Print, command_of, number_of}
+use Rattle.pretc_top.specs.Commands.{Command, Go, Check, Print, Rules, command_of, number_of}
 use Rattle.pretc_top.specs.Go.{Outside, Written, UsageEnds, Answers, whole, failed}
 use Rattle.pretc_top.specs.Comes.{CommandEnds, Comes}
 use Rattle.pretc_top.specs.Causes.{LacksFile, BoundHolds, IsRefusedBy}
-use Rattle.pretc_top.proofs.PrintCausing.{print_read, print_lacks, print_refused, print_number, breaks_of}
+use Rattle.pretc_top.proofs.SaysCausing.{says_read, says_lacks, says_refused, says_number, breaks_of}
 use Rattle.pretc_top.proofs.CheckCausing.{check_read, check_lacks, check_number, check_bound}
 
 read_ends : (command : Option Command) (status : Status) (old new : Outside) (due : List ℕ) → number_of status ≡ 3 → CommandEnds command status old new due
     → Rose old.load_faults new.load_faults ⊎ Rose old.source_faults new.source_faults
-read_ends (Some (Print program)) status old new due e h = inl (print_read status program old.files old.load_faults new.load_faults due e h.case)
+read_ends (Some (Print program)) status old new due e h = inl (says_read status program old.files old.load_faults new.load_faults due e h.case)
+read_ends (Some (Rules program)) status old new due e h = inl (says_read status program old.files old.load_faults new.load_faults due e h.case)
 read_ends (Some (Check image cert costs)) status old new due e h = inl (check_read status image cert costs old.files old.load_faults new.load_faults due e h.case)
 read_ends command Done old new due e h = absurd (omega arith)
 read_ends command Refused old new due e h = absurd (omega arith)
@@ -29,7 +30,8 @@ read_ends command NoFile old new due e h = absurd (omega arith)
 
 store_ends : (command : Option Command) (status : Status) (old new : Outside) (due : List ℕ) → number_of status ≡ 11 → CommandEnds command status old new due
     → Rose old.store_faults new.store_faults
-store_ends (Some (Print program)) status old new due e h = absurd (print_number status program old.files old.load_faults new.load_faults due 11 e h.case (λ h. omega (arith, h)) (λ h. omega (arith, h)) (λ h. omega (arith, h)) (λ h. omega (arith, h)) (λ h. omega (arith, h)))
+store_ends (Some (Print program)) status old new due e h = absurd (says_number status program old.files old.load_faults new.load_faults due 11 e h.case (λ h. omega (arith, h)) (λ h. omega (arith, h)) (λ h. omega (arith, h)) (λ h. omega (arith, h)) (λ h. omega (arith, h)))
+store_ends (Some (Rules program)) status old new due e h = absurd (says_number status program old.files old.load_faults new.load_faults due 11 e h.case (λ h. omega (arith, h)) (λ h. omega (arith, h)) (λ h. omega (arith, h)) (λ h. omega (arith, h)) (λ h. omega (arith, h)))
 store_ends (Some (Check image cert costs)) status old new due e h = absurd (check_number status image cert costs old.files old.load_faults new.load_faults due 11 e h.case (λ h. omega (arith, h)) (λ h. omega (arith, h)) (λ h. omega (arith, h)) (λ h. omega (arith, h)) (λ h. omega (arith, h)) (λ h. omega (arith, h)) (λ h. omega (arith, h)))
 store_ends command Done old new due e h = absurd (omega arith)
 store_ends command Refused old new due e h = absurd (omega arith)
@@ -45,7 +47,8 @@ store_ends command NotBuilt old new due e h = absurd (omega arith)
 store_ends command NoFile old new due e h = absurd (omega arith)
 
 write_ends : (command : Option Command) (status : Status) (old new : Outside) (due : List ℕ) → number_of status ≡ 4 → CommandEnds command status old new due → ⊥
-write_ends (Some (Print program)) status old new due e h = absurd (print_number status program old.files old.load_faults new.load_faults due 4 e h.case (λ h. omega (arith, h)) (λ h. omega (arith, h)) (λ h. omega (arith, h)) (λ h. omega (arith, h)) (λ h. omega (arith, h)))
+write_ends (Some (Print program)) status old new due e h = absurd (says_number status program old.files old.load_faults new.load_faults due 4 e h.case (λ h. omega (arith, h)) (λ h. omega (arith, h)) (λ h. omega (arith, h)) (λ h. omega (arith, h)) (λ h. omega (arith, h)))
+write_ends (Some (Rules program)) status old new due e h = absurd (says_number status program old.files old.load_faults new.load_faults due 4 e h.case (λ h. omega (arith, h)) (λ h. omega (arith, h)) (λ h. omega (arith, h)) (λ h. omega (arith, h)) (λ h. omega (arith, h)))
 write_ends (Some (Check image cert costs)) status old new due e h = absurd (check_number status image cert costs old.files old.load_faults new.load_faults due 4 e h.case (λ h. omega (arith, h)) (λ h. omega (arith, h)) (λ h. omega (arith, h)) (λ h. omega (arith, h)) (λ h. omega (arith, h)) (λ h. omega (arith, h)) (λ h. omega (arith, h)))
 write_ends command Done old new due e h = absurd (omega arith)
 write_ends command Refused old new due e h = absurd (omega arith)
@@ -61,7 +64,8 @@ write_ends command NotBuilt old new due e h = absurd (omega arith)
 write_ends command NoFile old new due e h = absurd (omega arith)
 
 no_file_ends : (command : Option Command) (status : Status) (old new : Outside) (due : List ℕ) → number_of status ≡ 17 → CommandEnds command status old new due → LacksFile command old.files
-no_file_ends (Some (Print program)) status old new due e h = print_lacks status program old.files old.load_faults new.load_faults due e h.case
+no_file_ends (Some (Print program)) status old new due e h = says_lacks status program old.files old.load_faults new.load_faults due e h.case
+no_file_ends (Some (Rules program)) status old new due e h = says_lacks status program old.files old.load_faults new.load_faults due e h.case
 no_file_ends (Some (Check image cert costs)) status old new due e h = check_lacks status image cert costs old.files old.load_faults new.load_faults due e h.case
 no_file_ends command Done old new due e h = absurd (omega arith)
 no_file_ends command Refused old new due e h = absurd (omega arith)
@@ -77,7 +81,8 @@ no_file_ends None NoFile old new due e h = absurd h
 no_file_ends (Some (Go program name)) NoFile old new due e h = h.1
 
 usage_ends : (command : Option Command) (status : Status) (old new : Outside) (due : List ℕ) → number_of status ≡ 2 → CommandEnds command status old new due → command ≡ None
-usage_ends (Some (Print program)) status old new due e h = absurd (print_number status program old.files old.load_faults new.load_faults due 2 e h.case (λ h. omega (arith, h)) (λ h. omega (arith, h)) (λ h. omega (arith, h)) (λ h. omega (arith, h)) (λ h. omega (arith, h)))
+usage_ends (Some (Print program)) status old new due e h = absurd (says_number status program old.files old.load_faults new.load_faults due 2 e h.case (λ h. omega (arith, h)) (λ h. omega (arith, h)) (λ h. omega (arith, h)) (λ h. omega (arith, h)) (λ h. omega (arith, h)))
+usage_ends (Some (Rules program)) status old new due e h = absurd (says_number status program old.files old.load_faults new.load_faults due 2 e h.case (λ h. omega (arith, h)) (λ h. omega (arith, h)) (λ h. omega (arith, h)) (λ h. omega (arith, h)) (λ h. omega (arith, h)))
 usage_ends (Some (Check image cert costs)) status old new due e h = absurd (check_number status image cert costs old.files old.load_faults new.load_faults due 2 e h.case (λ h. omega (arith, h)) (λ h. omega (arith, h)) (λ h. omega (arith, h)) (λ h. omega (arith, h)) (λ h. omega (arith, h)) (λ h. omega (arith, h)) (λ h. omega (arith, h)))
 usage_ends command Done old new due e h = absurd (omega arith)
 usage_ends command Refused old new due e h = absurd (omega arith)
@@ -107,6 +112,7 @@ none_ends NoFile old new due h = absurd h
 
 bound_ends : (command : Option Command) (status : Status) (old new : Outside) (due : List ℕ) → number_of status ≡ 0 → CommandEnds command status old new due → BoundHolds command old.files
 bound_ends (Some (Print program)) status old new due e h = tt
+bound_ends (Some (Rules program)) status old new due e h = tt
 bound_ends (Some (Check image cert costs)) status old new due e h = check_bound status image cert costs old.files old.load_faults new.load_faults due e h.case
 bound_ends (Some (Go program name)) status old new due e h = tt
 bound_ends None Done old new due e h = absurd h
@@ -122,7 +128,8 @@ bound_ends None NotBuilt old new due e h = absurd h
 bound_ends None NoFile old new due e h = absurd h
 
 refused_ends : (command : Option Command) (status : Status) (old new : Outside) (due : List ℕ) → number_of status ≡ 1 → CommandEnds command status old new due → IsRefusedBy command old.files
-refused_ends (Some (Print program)) status old new due e h = print_refused status program old.files old.load_faults new.load_faults due e h.case
+refused_ends (Some (Print program)) status old new due e h = says_refused status program old.files old.load_faults new.load_faults due e h.case
+refused_ends (Some (Rules program)) status old new due e h = says_refused status program old.files old.load_faults new.load_faults due e h.case
 refused_ends (Some (Check image cert costs)) status old new due e h = absurd (check_number status image cert costs old.files old.load_faults new.load_faults due 1 e h.case (λ h. omega (arith, h)) (λ h. omega (arith, h)) (λ h. omega (arith, h)) (λ h. omega (arith, h)) (λ h. omega (arith, h)) (λ h. omega (arith, h)) (λ h. omega (arith, h)))
 refused_ends command Done old new due e h = absurd (omega arith)
 refused_ends None Refused old new due e h = absurd h

@@ -11,5 +11,6 @@ pub mod RowsFit
 pub mod Meant
 pub mod Readied
 pub mod CheckCausing
-pub mod PrintCausing
+pub mod SaysCausing
 pub mod Causing
+mod Ruled

@@ -1,10 +1,9 @@
 -- A text that is pushed line by line.
-use Rattle.std.proofs.Common.{◌≡◌, ◌++◌, ℕ, List, [], Option, take, drop, sym, ap, subst, ◌∙◌, refl, append_assoc}
+use Rattle.std.proofs.Common.{◌≡◌, ◌++◌, ℕ, List, [], Option, take, drop, sym, ap, subst, ◌∙◌, refl, append_assoc, append-nil}
 use Rattle.std.proofs.lemmas.List.{take-append-drop}
 use Rattle.std.specs.Io.KnownBytes.{Appends}
 use Rattle.pt_outside.specs.Files.{AppendsFront}
 use Rattle.pretc_top.proofs.Fronts.{appends_none, appends_both, front_after}
-use Rattle.pretc_top.proofs.Ticking.{append_nil}
 
 -- what stands before the rest was pushed
 pub record IsPushed (text rest : List ℕ) (old now : Option (List ℕ)) : Type 0 where
@@ -25,7 +24,7 @@ pushed_more text rest n old now later p a = record {
 pub pushed_all : (text rest : List ℕ) (old now : Option (List ℕ)) → IsPushed text rest old now → rest ≡ [] → Appends old now text
 pushed_all text rest old now p e =
     let P : List ℕ → Type 0 = λ l. Appends old now l in
-    subst P (sym (append_nil p.done) ∙ sym (ap (λ l. p.done ++ l) e) ∙ sym p.whole) p.pushed
+    subst P (sym (append-nil p.done) ∙ sym (ap (λ l. p.done ++ l) e) ∙ sym p.whole) p.pushed
 
 pub pushed_front : (text rest : List ℕ) (n : ℕ) (old now later : Option (List ℕ)) → IsPushed text rest old now → AppendsFront now later (take n rest) → AppendsFront old later text
 pushed_front text rest n old now later p f =

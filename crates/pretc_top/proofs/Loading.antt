@@ -23,7 +23,7 @@ keeps_both (Some fs) None new a b = absurd a
 keeps_both (Some fs) (Some gs) None a b = absurd b
 keeps_both (Some fs) (Some gs) (Some hs) a b = b ∙ a
 
-rose_after : (a b c : ℕ) → a ≤ b → Rose b c → Rose a c
+pub rose_after : (a b c : ℕ) → a ≤ b → Rose b c → Rose a c
 rose_after a b c h r = omega arith
 
 rose_before : (a b c : ℕ) → Rose a b → b ≤ c → Rose a c

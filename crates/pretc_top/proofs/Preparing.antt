@@ -1,15 +1,16 @@
 -- The stages of `go`, one after another.
-use Rattle.std.proofs.Common.{◌≡◌, ◌≤◌, arith, inl, inr, ℕ, List, length, Option, Some, None, refl, sym, ap, subst, ◌∙◌}
+use Rattle.std.proofs.Common.{◌≡◌, ◌≤◌, inl, inr, ℕ, List, length, Option, Some, None, refl, sym, ap, subst, ◌∙◌}
 use Rattle.std.specs.FinMap.{insert}
-use Rattle.pt_outside.specs.Counts.{Rose}
 use Rattle.pt_outside.specs.Files.{Files, KeepsFiles, Stores, Tears}
 use Rattle.pt_image.specs.declared.image.Parts.{Parts}
 use Rattle.pt_image.specs.Text.{text_of}
 use Rattle.pretc_top.specs.declared.statuses.Status.{Status}
 use Rattle.pretc_top.specs.declared.statuses.Status.TheVariants.{Done, Refused, Usage, ReadFault, WriteFault, WantOfMemory, BadForm, NotAccepted, StoreFault, NotBuilt, NoFile}
+use Rattle.pc_verdict.specs.Verdicts.{BreaksFirst}
 use Rattle.pretc_top.specs.Commands.{line_of}
 use Rattle.pretc_top.specs.Go.{Outside, IsBuilt, IsStored, GoEnds}
 use Rattle.pretc_top.specs.Stages.{StoreFails, TraceFails, file_failed, file_lacks, file_memory, ProgramFails, program_missing, program_refused, program_memory, BuildFails, unread, not_small, build_memory}
+use Rattle.pretc_top.proofs.Loading.{keeps_both, rose_after}
 
 stores_after : (old mid new : Option Files) (name text : List ℕ) → KeepsFiles old mid → Stores mid new name text → Stores old new name text
 stores_after None mid new name text k s = tt
@@ -39,7 +40,7 @@ trace_ends NoFile program name image old new s f = absurd f
 
 -- a program that isn't read ends `go`, with nothing stored or pulled
 program_ends : (status : Status) (program name : List ℕ) (old new : Outside) (due : List ℕ) → KeepsFiles old.files new.files → new.left ≡ old.left
-    → ProgramFails status program old.files old.load_faults new.load_faults due → GoEnds status program name old new due
+    → ProgramFails BreaksFirst status program old.files old.load_faults new.load_faults due → GoEnds status program name old new due
 program_ends status program name old new due k f (program_missing (file_failed e r) l) =
     let P : Status → Type 0 = λ s. GoEnds s program name old new due in
     subst P (sym e) (l ∙ ap line_of e, inl (record { cause = r; files = k; left = f }))
@@ -62,25 +63,16 @@ pub build_ends : (status : Status) (program name : List ℕ) (old new : Outside)
 build_ends status program name old new due k f (unread p) = program_ends status program name old new due k f p
 build_ends status program name old new due k f (not_small e h l) =
     let P : Status → Type 0 = λ s. GoEnds s program name old new due in
-    subst P (sym e) (l, inl (record { tree = h.tree; loaded = h.loaded; not_small = h.not_small; files = k; left = f }))
+    subst P (sym e) (l, inl (record { tree = h.tree; typing = h.typing; taken = h.taken; not_small = h.not_small; files = k; left = f }))
 build_ends status program name old new due k f (build_memory e l) =
     let P : Status → Type 0 = λ s. GoEnds s program name old new due in
     subst P (sym e) (l, inl k)
-
-keeps_both : (old mid new : Option Files) → KeepsFiles old mid → KeepsFiles mid new → KeepsFiles old new
-keeps_both None mid new a b = tt
-keeps_both (Some fs) None new a b = absurd a
-keeps_both (Some fs) (Some gs) None a b = absurd b
-keeps_both (Some fs) (Some gs) (Some hs) a b = b ∙ a
 
 tears_after : (old mid new : Option Files) (name text : List ℕ) → KeepsFiles old mid → Tears mid new name text → Tears old new name text
 tears_after None mid new name text k t = tt
 tears_after (Some fs) None new name text k t = absurd k
 tears_after (Some fs) (Some gs) None name text k t = absurd t
 tears_after (Some fs) (Some gs) (Some hs) name text k t = let P : Files → Type 0 = λ f. Tears (Some f) (Some hs) name text in subst P k t
-
-rose_after : (a b c : ℕ) → a ≤ b → Rose b c → Rose a c
-rose_after a b c h r = omega arith
 
 -- an image that isn't stored ends `go`
 pub store_ends : (status : Status) (program name : List ℕ) (image : Parts) (old new : Outside) (mid : Option Files) (between : ℕ) → IsBuilt program image old.files → KeepsFiles old.files mid → new.left ≡ old.left

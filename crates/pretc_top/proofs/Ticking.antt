@@ -1,6 +1,6 @@
 -- What the loop over the ticks keeps.
 use Rattle.std.proofs.lemmas.List.{drop_more}
-use Rattle.std.proofs.Common.{◌≡◌, ◌<◌, get_or, OnErr, ℕ, suc, Result, Ok, Err, add-zero, ℤ, ◌+◌, max, List, [], ◌∷◌, ◌++◌, Option, Some, None, length, drop, refl, sym, ap, subst, ◌∙◌, append_assoc, length-append, arith}
+use Rattle.std.proofs.Common.{◌≡◌, ◌<◌, get_or, OnErr, ℕ, suc, Result, Ok, Err, add-zero, ℤ, ◌+◌, max, List, [], ◌∷◌, ◌++◌, Option, Some, None, length, drop, refl, sym, ap, subst, ◌∙◌, append_assoc, append-nil, length-append, arith}
 use Rattle.std.specs.Io.KnownBytes.{Appends}
 use Rattle.pt_outside.specs.Files.{AppendsFront}
 use Rattle.pt_trace.specs.Report.{tick_line, tick_lines, greatest, worst_line}
@@ -16,10 +16,6 @@ use Rattle.pretc_top.proofs.Fronts.{appends_none, appends_both, front_after}
 
 together : {A : Type 0} (xs ys zs : List A) → xs ++ (ys ++ zs) ≡ (xs ++ ys) ++ zs
 together xs ys zs = rw append_assoc refl
-
-pub append_nil : {A : Type 0} (xs : List A) → xs ++ [] ≡ xs
-append_nil [] = refl
-append_nil (x ∷ xs) = ap (λ l. x ∷ l) (append_nil xs)
 
 -- so many ticks are done and written
 pub record IsUnderWay (first now : Whole) (most : ℕ) (rows left : List (List ℤ)) (before after : Option (List ℕ)) (done worst : ℕ) : Type 0 where
@@ -63,7 +59,7 @@ next_ends first now most rows left row before after done worst w =
     subst Ended (sym (tick_is first now most row w.image w.costs w.going)) (ends_first first.image first.costs most left (tick_from first.image first.costs now.state row most) w.ended)
 
 lines_push : (k : ℕ) (ticks : List (List ℤ × ℕ)) (tick : List ℤ × ℕ) → tick_lines k (ticks ++ tick ∷ []) ≡ tick_lines k ticks ++ tick_line (k + length ticks) tick.0 (Some tick.1)
-lines_push k [] tick = append_nil (tick_line k tick.0 (Some tick.1)) ∙ ap (λ n. tick_line n tick.0 (Some tick.1)) (sym (add-zero k))
+lines_push k [] tick = append-nil (tick_line k tick.0 (Some tick.1)) ∙ ap (λ n. tick_line n tick.0 (Some tick.1)) (sym (add-zero k))
 lines_push k (t ∷ ticks) tick =
     let e : k + 1 + length ticks ≡ k + suc (length ticks) = omega arith in
     ap (λ l. tick_line k t.0 (Some t.1) ++ l) (lines_push (k + 1) ticks tick ∙ ap (λ n. tick_lines (k + 1) ticks ++ tick_line n tick.0 (Some tick.1)) e)
@@ -152,7 +148,7 @@ pub all_done : (first now : Whole) (most : ℕ) (rows : List (List ℤ)) (before
     → IsUnderWay first now most rows [] before after done worst
     → Appends before after (tick_lines 0 (told_by first most rows)) × (worst ≡ greatest (told_by first most rows))
 all_done first now most rows before after done worst w =
-    let same : told_by first most rows ≡ w.ticks = w.run ∙ append_nil w.ticks in
+    let same : told_by first most rows ≡ w.ticks = w.run ∙ append-nil w.ticks in
     let P : List (List ℤ × ℕ) → Type 0 = λ l. Appends before after (tick_lines 0 l) in
     (subst P (sym same) w.written, w.worst_is ∙ ap greatest (sym same))
 

@@ -8,17 +8,18 @@ use Rattle.tk_check.specs.Bounded.{BoundsFreeTicks, BoundsRuns}
 use Rattle.pt_base.specs.declared.Rule.{Rule}
 use Rattle.pt_base.specs.declared.Span.{Span}
 use Rattle.pc_source.specs.Sources.{Breaks}
+use Rattle.pc_verdict.specs.Verdicts.{BreaksFirst}
 use Rattle.pretc_top.specs.Go.{source_most}
-use Rattle.pretc_top.specs.Commands.{Command, Go, Check, Print}
+use Rattle.pretc_top.specs.Commands.{Command, Go, Check, Print, Rules}
 use Rattle.pretc_top.specs.Check.{image_most, cert_most, unit_word, LacksOne, IsImageText, IsCertText}
 
--- the program was loaded, and breaks this rule first
-pub record BreaksRule (program : List ℕ) (files : Option Files) : Type 0 where
+-- the program was loaded, and breaks this rule first, of those that are looked at
+pub record BreaksRule (B : List ℕ → Rule → Span → Type 0) (program : List ℕ) (files : Option Files) : Type 0 where
   pub text : List ℕ
   pub held : Holds files program source_most text
   pub rule : Rule
   pub span : Span
-  pub breaks : Breaks text rule span
+  pub breaks : B text rule span
 
 -- the file to be loaded next isn't among the files that the shelf tells of
 abbrev pub LacksFile : Option Command → Option Files → Type 0
@@ -26,6 +27,7 @@ LacksFile None files = ⊥
 LacksFile (Some (Go program name)) files = Lacks files program
 LacksFile (Some (Check image cert costs)) files = LacksOne image cert files
 LacksFile (Some (Print program)) files = Lacks files program
+LacksFile (Some (Rules program)) files = Lacks files program
 
 -- the two files of a check at unit costs, with what their texts come to
 pub record ChecksTo (image cert costs : List ℕ) (files : Option Files) (P : List ℕ → List ℕ → Type 0) : Type 0 where
@@ -51,10 +53,12 @@ BoundHolds None files = ⊥
 BoundHolds (Some (Go program name)) files = Unit {0}
 BoundHolds (Some (Check image cert costs)) files = ChecksTo image cert costs files IsBound
 BoundHolds (Some (Print program)) files = Unit {0}
+BoundHolds (Some (Rules program)) files = Unit {0}
 
--- the program of the command breaks a rule of size, tokens or grammar, and this is the first
+-- the program of the command breaks a rule, and this is the first; `print` looks at size, tokens and grammar alone
 abbrev pub IsRefusedBy : Option Command → Option Files → Type 0
 IsRefusedBy None files = ⊥
-IsRefusedBy (Some (Go program name)) files = BreaksRule program files
+IsRefusedBy (Some (Go program name)) files = BreaksRule BreaksFirst program files
 IsRefusedBy (Some (Check image cert costs)) files = ⊥
-IsRefusedBy (Some (Print program)) files = BreaksRule program files
+IsRefusedBy (Some (Print program)) files = BreaksRule Breaks program files
+IsRefusedBy (Some (Rules program)) files = BreaksRule BreaksFirst program files

@@ -9,10 +9,11 @@ pub data Command : Type 0 where
   Go : (program image : List ℕ) → Command
   Check : (image cert costs : List ℕ) → Command
   Print : (program : List ℕ) → Command
+  Rules : (program : List ℕ) → Command
 
 -- the command that words are, if they are one; `go` with two equal names is none
 abbrev pub command_of : List (List ℕ) → Option Command
-command_of (verb ∷ program ∷ []) = if bytes_eq verb (codes "print") then Some (Print program) else None
+command_of (verb ∷ program ∷ []) = if bytes_eq verb (codes "print") then Some (Print program) else if bytes_eq verb (codes "rules") then Some (Rules program) else None
 command_of (verb ∷ program ∷ image ∷ []) = if bytes_eq verb (codes "go") && not (bytes_eq program image) then Some (Go program image) else None
 command_of (verb ∷ image ∷ cert ∷ costs ∷ []) = if bytes_eq verb (codes "check") then Some (Check image cert costs) else None
 command_of words = None
@@ -31,7 +32,7 @@ number_of StoreFault = 11
 number_of NotBuilt = 12
 number_of NoFile = 17
 
--- the line that a status prints last; a report, a printed program, a refusal and the answers of a check have their own, and a failed write prints none
+-- the line that a status prints last; a report, a printed program, an accepted one, a refusal and the answers of a check have their own, and a failed write prints none
 abbrev pub line_of : Status → List ℕ
 line_of Done = []
 line_of Refused = []

@@ -13,8 +13,9 @@ use Rattle.mb_core.specs.Run.{run}
 use Rattle.pt_base.specs.declared.Rule.{Rule}
 use Rattle.pt_base.specs.declared.Span.{Span}
 use Rattle.pt_trace.specs.Refused.{refused_line}
-use Rattle.pc_ast.specs.declared.Program.{Program}
-use Rattle.pc_source.specs.Sources.{IsSource, Breaks}
+use Rattle.pc_parse.specs.Trees.{Program}
+use Rattle.pc_typed.specs.Typing.{Typing}
+use Rattle.pc_verdict.specs.Verdicts.{IsAccepted, BreaksFirst}
 use Rattle.pc_small.specs.Program as small
 use Rattle.pc_small.specs.Trees.{IsTreeOf}
 use Rattle.pc_meaning.specs.Meaning.{meaning_of}
@@ -55,25 +56,26 @@ trace_most = 1048576
 abbrev pub cycles_most : ℕ
 cycles_most = 1000000000000
 
--- the program was loaded, and its tokens spell this tree
-pub record IsLoaded (program : List ℕ) (files : Option Files) (tree : Program) : Type 0 where
+-- the program was loaded and keeps every rule; this is its tree, and the same with numbers for names
+pub record IsTaken (program : List ℕ) (files : Option Files) (tree : Program) (typing : Typing) : Type 0 where
   pub text : List ℕ
   pub held : Holds files program source_most text
-  pub source : IsSource text tree
+  pub accepted : IsAccepted text tree typing
 
--- the program was loaded and compiled to an image
+-- the program was loaded, keeps every rule, and was compiled to an image
 pub record IsBuilt (program : List ℕ) (image : Parts) (files : Option Files) : Type 0 where
   pub tree : Program
-  pub loaded : IsLoaded program files tree
+  pub typing : Typing
+  pub taken : IsTaken program files tree typing
   pub compiled : Compiles tree.items image
 
--- the program was loaded, and this is the first rule that it breaks
-pub record IsRefusedProgram (program : List ℕ) (files : Option Files) (due : List ℕ) : Type 0 where
+-- the program was loaded, and this is the first rule that it breaks, of those that are looked at
+pub record IsRefusedProgram (B : List ℕ → Rule → Span → Type 0) (program : List ℕ) (files : Option Files) (due : List ℕ) : Type 0 where
   pub text : List ℕ
   pub held : Holds files program source_most text
   pub rule : Rule
   pub span : Span
-  pub breaks : Breaks text rule span
+  pub breaks : B text rule span
   pub line : due ≡ refused_line rule span.from span.to
 
 -- the program was loaded and compiled, and the one text of its image was stored, and nothing else
@@ -111,10 +113,11 @@ pub record IsDone (program name : List ℕ) (old new : Outside) (due : List ℕ)
   pub read : IsRead (length image.inputs) rows old.left new.left
   pub reported : IsReport stored.built.tree image rows due
 
--- the program isn't small, and nothing is stored or pulled
+-- the program keeps every rule and isn't small, and nothing is stored or pulled
 pub record IsNotSmall (program : List ℕ) (old new : Outside) : Type 0 where
   pub tree : Program
-  pub loaded : IsLoaded program old.files tree
+  pub typing : Typing
+  pub taken : IsTaken program old.files tree typing
   pub not_small : (p : small.Program) → IsTreeOf tree.items p → ⊥
   pub files : KeepsFiles old.files new.files
   pub left : new.left ≡ old.left
@@ -152,7 +155,7 @@ IsWant program name old new = KeepsFiles old.files new.files ⊎ ((image : Parts
 -- how `go` comes to a status, with the text that is due then
 abbrev pub GoEnds : Status → List ℕ → List ℕ → Outside → Outside → List ℕ → Type 0
 GoEnds Done program name old new due = IsDone program name old new due
-GoEnds Refused program name old new due = IsRefusedProgram program old.files due × KeepsFiles old.files new.files × (new.left ≡ old.left)
+GoEnds Refused program name old new due = IsRefusedProgram BreaksFirst program old.files due × KeepsFiles old.files new.files × (new.left ≡ old.left)
 GoEnds Usage program name old new due = ⊥
 GoEnds ReadFault program name old new due = (due ≡ line_of ReadFault) × (IsFailedLoad old new ⊎ IsFailedPull program name old new)
 GoEnds WriteFault program name old new due = ⊥

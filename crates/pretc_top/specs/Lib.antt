@@ -3,7 +3,7 @@ pub mod Told
 pub mod Reported
 pub mod Go
 pub mod Check
-pub mod Print
+pub mod Says
 pub mod Comes
 pub mod Stages
 pub mod Readying

@@ -2,18 +2,23 @@
 use Rattle.std.specs.Prelude.{◌≡◌, ℕ, List, Option}
 use Rattle.pt_outside.specs.Counts.{Rose}
 use Rattle.pt_outside.specs.Files.{Files, KeepsFiles, Tears, Lacks}
-use Rattle.pc_ast.specs.declared.Program.{Program}
+use Rattle.pc_parse.specs.Trees.{Program}
+use Rattle.pt_base.specs.declared.Rule.{Rule}
+use Rattle.pt_base.specs.declared.Span.{Span}
+use Rattle.pc_typed.specs.Typing.{Typing}
+use Rattle.pc_verdict.specs.Verdicts.{BreaksFirst}
 use Rattle.pc_small.specs.Program as small
 use Rattle.pc_small.specs.Trees.{IsTreeOf}
 use Rattle.pretc_top.specs.declared.statuses.Status.{Status}
 use Rattle.pretc_top.specs.declared.statuses.Status.TheVariants.{Done, Refused, Usage, ReadFault, WriteFault, WantOfMemory, BadForm, NotAccepted, StoreFault, NotBuilt, NoFile}
 use Rattle.pretc_top.specs.Commands.{line_of}
-use Rattle.pretc_top.specs.Go.{IsBadTrace, IsLoaded, IsRefusedProgram}
+use Rattle.pretc_top.specs.Go.{IsBadTrace, IsTaken, IsRefusedProgram}
 
--- the program that was loaded isn't small
+-- the program that was loaded keeps every rule and isn't small
 pub record HoldsNoSmall (program : List ℕ) (files : Option Files) : Type 0 where
   pub tree : Program
-  pub loaded : IsLoaded program files tree
+  pub typing : Typing
+  pub taken : IsTaken program files tree typing
   pub not_small : (p : small.Program) → IsTreeOf tree.items p → ⊥
 
 -- a file wasn't loaded, by the count of load faults
@@ -22,15 +27,15 @@ pub data FileFails (status : Status) (name : List ℕ) (files : Option Files) (b
   file_lacks : status ≡ NoFile → Lacks files name → FileFails status name files before now
   file_memory : status ≡ WantOfMemory → FileFails status name files before now
 
--- no program was read, by the count of load faults, and this text is due
-pub data ProgramFails (status : Status) (program : List ℕ) (files : Option Files) (before now : ℕ) (due : List ℕ) : Type 0 where
-  program_missing : FileFails status program files before now → due ≡ line_of status → ProgramFails status program files before now due
-  program_refused : status ≡ Refused → IsRefusedProgram program files due → ProgramFails status program files before now due
-  program_memory : status ≡ WantOfMemory → due ≡ line_of WantOfMemory → ProgramFails status program files before now due
+-- no program was read by these rules, by the count of load faults, and this text is due
+pub data ProgramFails (B : List ℕ → Rule → Span → Type 0) (status : Status) (program : List ℕ) (files : Option Files) (before now : ℕ) (due : List ℕ) : Type 0 where
+  program_missing : FileFails status program files before now → due ≡ line_of status → ProgramFails B status program files before now due
+  program_refused : status ≡ Refused → IsRefusedProgram B program files due → ProgramFails B status program files before now due
+  program_memory : status ≡ WantOfMemory → due ≡ line_of WantOfMemory → ProgramFails B status program files before now due
 
 -- no image was built of the program, by the count of load faults, and this text is due
 pub data BuildFails (status : Status) (program : List ℕ) (files : Option Files) (before now : ℕ) (due : List ℕ) : Type 0 where
-  unread : ProgramFails status program files before now due → BuildFails status program files before now due
+  unread : ProgramFails BreaksFirst status program files before now due → BuildFails status program files before now due
   not_small : status ≡ NotBuilt → HoldsNoSmall program files → due ≡ line_of NotBuilt → BuildFails status program files before now due
   build_memory : status ≡ WantOfMemory → due ≡ line_of WantOfMemory → BuildFails status program files before now due
 

@@ -10,6 +10,7 @@ use crate::checking::check_files;
 use crate::ending::finish;
 use crate::going::go;
 use crate::printing::print_program;
+use crate::ruling::rules_of_program;
 use crate::statuses::Status;
 use pt_base::Text;
 use pt_outside::{Shelf, Sink, Source};
@@ -21,6 +22,7 @@ enum Call<'a> {
     Go(&'a Text, &'a Text),
     Check(&'a Text, &'a Text, &'a Text),
     Print(&'a Text),
+    Rules(&'a Text),
 }
 
 // The command that the words are, if they are one.
@@ -31,6 +33,8 @@ fn call_of(words: &[Text]) -> Option<Call<'_>>
         [verb, program] => {
             if verb.bytes() == b"print".as_slice() {
                 Some(Call::Print(program))
+            } else if verb.bytes() == b"rules".as_slice() {
+                Some(Call::Rules(program))
             } else {
                 None
             }
@@ -72,6 +76,7 @@ fn called<H: Shelf, I: Source, O: Sink>(
         Some(Call::Go(program, name)) => go(alloc, program, name, shelf, input, out),
         Some(Call::Check(image, cert, costs)) => check_files(alloc, image, cert, costs, shelf, out),
         Some(Call::Print(program)) => print_program(alloc, program, shelf, out),
+        Some(Call::Rules(program)) => rules_of_program(alloc, program, shelf, out),
     }
 }
 

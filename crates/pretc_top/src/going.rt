@@ -31,17 +31,6 @@ struct Ready {
     outputs: Vec<i32>,
 }
 
-// So many zeros.
-fn zeros(alloc: Global, count: usize) -> Result<Vec<i32>, Memory>
-    ensures { IfOk result (λ zeros. length zeros.items ≡ count) }
-{
-    let mut zeros = Vec::new(alloc);
-    for _ in 0..count {
-        zeros.push(0)?;
-    }
-    Ok(zeros)
-}
-
 // What running the image takes from memory.
 fn load_machine(alloc: Global, image: &Image) -> Result<(Machine, Vec<i32>), Memory>
     requires { IsPlain image.now }
@@ -49,7 +38,7 @@ fn load_machine(alloc: Global, image: &Image) -> Result<(Machine, Vec<i32>), Mem
     ensures outputs { IfOk result (λ loaded. length loaded.1.items ≡ length image.now.outputs) }
 {
     let machine = Machine::load(alloc, image, &unit_costs())?;
-    let outputs = zeros(alloc, image.outputs().len())?;
+    let outputs = vec![in alloc; 0; image.outputs().len()]?;
     Ok((machine, outputs))
 }
 

@@ -7,6 +7,7 @@ mod ending;
 mod going;
 mod printing;
 mod reporting;
+mod ruling;
 mod stages;
 mod statuses;
 mod verdicts;

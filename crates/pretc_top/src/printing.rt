@@ -3,9 +3,9 @@ ghost use Rattle.std.specs.Io.KnownBytes.{Appends};
 ghost use Rattle.pt_outside.specs.Files.{AppendsFront};
 ghost use Rattle.pt_outside.specs.Files.{KeepsFiles};
 ghost use Rattle.pt_outside.specs.Counts.{HasCause};
-ghost use Rattle.pc_print.specs.Canonical.{program_text};
+ghost use Rattle.pc_source.specs.Sources.{Breaks};
 ghost use Rattle.pretc_top.specs.Go.{Answers, written_is};
-ghost use Rattle.pretc_top.specs.Print.{PrintCase, PrintComes};
+ghost use Rattle.pretc_top.specs.Says.{SaysCase, SaysComes, IsPrinted};
 
 use crate::ending::{close, finish_with};
 use crate::stages::load_program;
@@ -56,8 +56,8 @@ pub fn push_lines<O: Sink>(text: &[u8], out: &mut O) -> Result<(), Failed>
 
 // The text of a loaded program.
 fn printed<H: Shelf>(alloc: Global, program: &Text, shelf: &mut H) -> Result<Text, Verdict>
-    ensures printed { IfOk result (λ text. PrintCase Status.Done program.now (H.files shelf.old) (H.load_faults shelf.old) (H.load_faults shelf.new) text) }
-    ensures failed { IfErr result (λ verdict. PrintCase verdict.status program.now (H.files shelf.old) (H.load_faults shelf.old) (H.load_faults shelf.new) verdict.line) }
+    ensures printed { IfOk result (λ text. SaysCase Breaks IsPrinted Status.Done program.now (H.files shelf.old) (H.load_faults shelf.old) (H.load_faults shelf.new) text) }
+    ensures failed { IfErr result (λ verdict. SaysCase Breaks IsPrinted verdict.status program.now (H.files shelf.old) (H.load_faults shelf.old) (H.load_faults shelf.new) verdict.line) }
     ensures files { KeepsFiles (H.files shelf.old) (H.files shelf.new) }
     ensures load_faults { H.load_faults shelf.old ≤ H.load_faults shelf.new }
     ensures store_faults { H.store_faults shelf.old ≤ H.store_faults shelf.new }
@@ -90,7 +90,7 @@ pub fn print_program<H: Shelf, O: Sink>(
     shelf: &mut H,
     out: &mut O,
 ) -> u8
-    ensures comes { PrintComes program.now (H.files shelf.old) (H.load_faults shelf.old) (H.load_faults shelf.new) (written_is (O.written out.old) (O.faults out.old)) (written_is (O.written out.new) (O.faults out.new)) result }
+    ensures comes { SaysComes Breaks IsPrinted program.now (H.files shelf.old) (H.load_faults shelf.old) (H.load_faults shelf.new) (written_is (O.written out.old) (O.faults out.old)) (written_is (O.written out.new) (O.faults out.new)) result }
     ensures files { KeepsFiles (H.files shelf.old) (H.files shelf.new) }
     ensures load_faults { H.load_faults shelf.old ≤ H.load_faults shelf.new }
     ensures store_faults { H.store_faults shelf.old ≤ H.store_faults shelf.new }

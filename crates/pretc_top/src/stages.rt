@@ -1,14 +1,18 @@
 ghost use Rattle.std.specs.Prelude.{◌≡◌, ◌≤◌, ℕ, List, All, IfOk, IfErr, OnOk, length};
 ghost use Rattle.pt_outside.specs.Files.{KeepsFiles, Stores, Holds};
 ghost use Rattle.pt_image.specs.Text.{text_of};
-ghost use Rattle.pretc_top.specs.Go.{IsLoaded, IsBuilt, IsRead};
+ghost use Rattle.pretc_top.specs.Go.{IsTaken, IsBuilt, IsRead};
+ghost use Rattle.pretc_top.specs.Says.{IsLoaded};
+ghost use Rattle.pc_source.specs.Sources.{Breaks};
+ghost use Rattle.pc_verdict.specs.Verdicts.{BreaksFirst};
 ghost use Rattle.pretc_top.specs.Stages.{FileFails, ProgramFails, BuildFails, StoreFails, TraceFails};
 
 use crate::statuses::Status;
 use crate::verdicts::{Verdict, refused, said};
-use pc_ast::Program;
 use pc_compile::compile;
+use pc_parse::Program;
 use pc_source::source_of;
+use pc_verdict::{Accepted, judged};
 use pt_base::{Many, Text};
 use pt_image::Image;
 use pt_outside::{Shelf, ShelfFault, Source, StoreFault};
@@ -42,10 +46,10 @@ pub fn load_text<H: Shelf>(
     }
 }
 
-/// Loads a program and reads it.
+/// Loads a program and reads its tokens and its grammar.
 pub fn load_program<H: Shelf>(alloc: Global, name: &Text, shelf: &mut H) -> Result<Program, Verdict>
     ensures loaded { IfOk result (λ tree. IsLoaded name.now (H.files shelf.old) tree) }
-    ensures failed { IfErr result (λ verdict. ProgramFails verdict.status name.now (H.files shelf.old) (H.load_faults shelf.old) (H.load_faults shelf.new) verdict.line) }
+    ensures failed { IfErr result (λ verdict. ProgramFails Breaks verdict.status name.now (H.files shelf.old) (H.load_faults shelf.old) (H.load_faults shelf.new) verdict.line) }
     ensures files { KeepsFiles (H.files shelf.old) (H.files shelf.new) }
     ensures load_faults { H.load_faults shelf.old ≤ H.load_faults shelf.new }
     ensures store_faults { H.store_faults shelf.old ≤ H.store_faults shelf.new }
@@ -63,7 +67,32 @@ pub fn load_program<H: Shelf>(alloc: Global, name: &Text, shelf: &mut H) -> Resu
     }
 }
 
-/// Loads a program and compiles it.
+/// Loads a program and looks whether it keeps every rule.
+pub fn load_accepted<H: Shelf>(
+    alloc: Global,
+    name: &Text,
+    shelf: &mut H,
+) -> Result<Accepted, Verdict>
+    ensures taken { IfOk result (λ accepted. IsTaken name.now (H.files shelf.old) accepted.program accepted.typed) }
+    ensures failed { IfErr result (λ verdict. ProgramFails BreaksFirst verdict.status name.now (H.files shelf.old) (H.load_faults shelf.old) (H.load_faults shelf.new) verdict.line) }
+    ensures files { KeepsFiles (H.files shelf.old) (H.files shelf.new) }
+    ensures load_faults { H.load_faults shelf.old ≤ H.load_faults shelf.new }
+    ensures store_faults { H.store_faults shelf.old ≤ H.store_faults shelf.new }
+{
+    let text = match load_text(alloc, name, SOURCE_MOST, shelf) {
+        Ok(text) => text,
+        Err(status) => return Err(said(status)),
+    };
+    match judged(alloc, &text) {
+        Ok(accepted) => Ok(accepted),
+        Err(refusal) => {
+            let verdict = refused(refusal);
+            Err(verdict)
+        }
+    }
+}
+
+/// Loads a program that keeps every rule, and compiles it.
 pub fn load_image<H: Shelf>(alloc: Global, program: &Text, shelf: &mut H) -> Result<Image, Verdict>
     ensures built { IfOk result (λ image. IsBuilt program.now image (H.files shelf.old)) }
     ensures failed { IfErr result (λ verdict. BuildFails verdict.status program.now (H.files shelf.old) (H.load_faults shelf.old) (H.load_faults shelf.new) verdict.line) }
@@ -71,11 +100,11 @@ pub fn load_image<H: Shelf>(alloc: Global, program: &Text, shelf: &mut H) -> Res
     ensures load_faults { H.load_faults shelf.old ≤ H.load_faults shelf.new }
     ensures store_faults { H.store_faults shelf.old ≤ H.store_faults shelf.new }
 {
-    let tree = match load_program(alloc, program, shelf) {
-        Ok(tree) => tree,
+    let accepted = match load_accepted(alloc, program, shelf) {
+        Ok(accepted) => accepted,
         Err(verdict) => return Err(verdict),
     };
-    match compile(alloc, &tree) {
+    match compile(alloc, &accepted.program) {
         Ok(Some(image)) => Ok(image),
         Ok(None) => Err(said(Status::NotBuilt)),
         Err(_) => Err(said(Status::WantOfMemory)),

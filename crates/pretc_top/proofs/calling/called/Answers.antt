@@ -3,7 +3,7 @@ use Rattle.pretc_top.specs.Commands.{command_of}
 use Rattle.pretc_top.specs.Calls.{IsCall}
 use Rattle.pretc_top.specs.Go.{outside, written_is}
 use Rattle.pretc_top.specs.declared.calling.Call.{Call}
-use Rattle.pretc_top.proofs.Called.{check_comes, print_comes}
+use Rattle.pretc_top.proofs.Called.{check_comes, print_comes, rules_comes}
 use Rattle.pretc_top.proofs.calling.called.Goals as goal
 
 pub returns-in-Some-Check-clause-comes : goal.returns-in-Some-Check-clause-comes
@@ -25,3 +25,13 @@ returns-in-Some-Print-clause-comes g c =
     (outside (g.H.Shelf.files c.print_program.new.shelf) (g.H.Shelf.load_faults c.print_program.new.shelf) (g.H.Shelf.store_faults c.print_program.new.shelf) (g.I.Source.left c.args.input.now) (g.I.Source.faults c.args.input.now))
     (written_is (g.O.Sink.written c.args.out.now) (g.O.Sink.faults c.args.out.now)) (written_is (g.O.Sink.written c.print_program.new.out) (g.O.Sink.faults c.print_program.new.out))
     c.print_program.result (subst P (c.in-Some-Print.is ∙ ap Some c.in-Some-Print.field-0-is) (subst Q c.deref.ensures.value c.call_of.ensures)) c.print_program.ensures.files refl refl c.print_program.ensures.comes
+
+pub returns-in-Some-Rules-clause-comes : goal.returns-in-Some-Rules-clause-comes
+returns-in-Some-Rules-clause-comes g c =
+    let P : Option Call → Type 0 = λ r. IsCall r (command_of c.args.words.now.items) in
+    let Q : List (List ℕ) → Type 0 = λ words. IsCall c.call_of.result (command_of words) in
+    rules_comes c.args.words.now.items c.in-Some-Rules.program.now
+    (outside (g.H.Shelf.files c.args.shelf.now) (g.H.Shelf.load_faults c.args.shelf.now) (g.H.Shelf.store_faults c.args.shelf.now) (g.I.Source.left c.args.input.now) (g.I.Source.faults c.args.input.now))
+    (outside (g.H.Shelf.files c.rules_of_program.new.shelf) (g.H.Shelf.load_faults c.rules_of_program.new.shelf) (g.H.Shelf.store_faults c.rules_of_program.new.shelf) (g.I.Source.left c.args.input.now) (g.I.Source.faults c.args.input.now))
+    (written_is (g.O.Sink.written c.args.out.now) (g.O.Sink.faults c.args.out.now)) (written_is (g.O.Sink.written c.rules_of_program.new.out) (g.O.Sink.faults c.rules_of_program.new.out))
+    c.rules_of_program.result (subst P (c.in-Some-Rules.is ∙ ap Some c.in-Some-Rules.field-0-is) (subst Q c.deref.ensures.value c.call_of.ensures)) c.rules_of_program.ensures.files refl refl c.rules_of_program.ensures.comes

@@ -1,25 +1,7 @@
 #!/usr/bin/env bash
 # The built program on real files: each example's whole report, and what becomes of it where the outside fails.
 set -u
-top="$(cd "$(dirname "${BASH_SOURCE[0]}")/.." && pwd)"
-program="$top/crates/pretc/out/pretc"
-# the front door builds the program where a gate run has left none
-[ -x "$program" ] || "$top/pretc" >/dev/null </dev/null
-if [ ! -x "$program" ]; then
-  echo "the program isn't built: $program"
-  exit 1
-fi
-work="$(mktemp -d)"
-trap 'rm -rf "$work"' EXIT
-cd "$work" || exit 1
-failed=0
-wrong() { echo "FAILED: $*"; failed=1; }
-
-# expect STATUS OUTPUT-FILE NAME: the last run's status and whole output
-expect() {
-  [ "$status" = "$1" ] || wrong "$3: status $status, not $1"
-  cmp -s out "$2" || wrong "$3: another output"
-}
+. "$(dirname "${BASH_SOURCE[0]}")/common/program.bash"
 
 for source in "$top"/examples/*.pc; do
   name="$(basename "$source" .pc)"
@@ -52,6 +34,26 @@ line "refused S1 17 17"; "$program" go cut.pc im2 </dev/null >out; status=$?
 expect 1 wanted "a program that is cut short"; [ -e im2 ] && wrong "refused: an image is stored"
 line "refused S1 17 17"; "$program" print cut.pc </dev/null >out; status=$?
 expect 1 wanted "the text of a program that is cut short"
+# the verdict: the counts of a program, or the first rule that it breaks
+line "accepted threads 1 words 2 weight 40 single 40"; "$program" rules "$first" </dev/null >out; status=$?
+expect 0 wanted "the counts of a program"
+alarm="$top/examples/whole/alarm.pc"
+line "accepted threads 3 words 4 weight 124 single 124"; "$program" rules "$alarm" </dev/null >out; status=$?
+expect 0 wanted "the counts of threads and an abort"
+line "not built"; "$program" go "$alarm" im2 </dev/null >out; status=$?
+expect 12 wanted "threads and an abort"; [ -e im2 ] && wrong "threads and an abort: an image is stored"
+"$program" print "$alarm" </dev/null >out; status=$?
+expect 0 "$alarm" "the text of threads and an abort"
+printf 'int x = 0;\nvoid main() { while (1) { x = 1; } }' >spin.pc
+for command in "rules spin.pc" "go spin.pc im2"; do
+  line "refused E1 25 30"; "$program" $command </dev/null >out; status=$?
+  expect 1 wanted "$command"; [ -e im2 ] && wrong "$command: an image is stored"
+done
+printf 'void main() { x = 1; }' >unknown.pc
+line "refused N2 14 15"; "$program" rules unknown.pc </dev/null >out; status=$?
+expect 1 wanted "an unknown name"
+line "no file"; "$program" rules missing </dev/null >out; status=$?
+expect 17 wanted "the rules of a missing file"
 # each example is its own canonical text
 for source in "$top"/examples/*.pc loop.pc; do
   "$program" print "$source" </dev/null >out; status=$?

@@ -10,9 +10,9 @@ use Rattle.pc_ast.specs.declared.expressions.Word.{Word}
 use Rattle.pc_ast.specs.declared.programs.Item.{Item}
 use Rattle.pc_typed.specs.Places.{Place, places, Found, Unknown, Own, Known, found, word_of, same_text, is_among, has_name, is_start, is_main, is_thread}
 use Rattle.pc_typed.specs.Breaking.{Breaks, item_twice, own_twice, unknown, wrong_kind, input_written, miscounted, no_main, started_twice, no_thread, is_wrong, is_written, is_input, is_miscounted, is_main_item, is_named_main, main_place, own_of, holds_some_pause, starts_text}
-use Rattle.pc_first.specs.First.{Fault, fault_if}
-use Rattle.pc_first.proofs.Elements.{in_left, in_right, in_either, in_flat, flat_in}
-use Rattle.pc_first.proofs.Least.{fault_in, in_fault}
+use Rattle.pt_base.specs.First.{Fault, fault_if}
+use Rattle.pt_base.proofs.Elements.{in_left, in_right, in_either, in_flat, flat_in}
+use Rattle.pt_base.proofs.Least.{fault_in, in_fault}
 use Rattle.pc_sites.specs.Sites.{seen, sites_of}
 use Rattle.pc_sites.specs.Started.{started, is_unknown}
 use Rattle.pc_faults.specs.Faults.{repeats, own_faults, site_faults, sites_faults, main_faults, pause_faults, faults}

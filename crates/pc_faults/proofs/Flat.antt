@@ -5,7 +5,7 @@ use Rattle.pt_base.specs.declared.Rule.TheVariants.{N1, N8}
 use Rattle.pc_ast.specs.declared.programs.Item.{Item}
 use Rattle.pc_typed.specs.Places.{Place, word_of, is_thread}
 use Rattle.pc_typed.specs.Breaking.{own_of, holds_some_pause}
-use Rattle.pc_first.specs.First.{Fault, fault_if}
+use Rattle.pt_base.specs.First.{Fault, fault_if}
 use Rattle.pc_sites.specs.Sites.{seen}
 use Rattle.pc_faults.specs.Faults.{repeats, own_faults, site_faults, sites_faults, pause_faults}
 

@@ -3,9 +3,10 @@ use Rattle.std.proofs.Common.{◌≡◌, ℕ, List, None, Some}
 use Rattle.pt_base.specs.declared.Rule.{Rule}
 use Rattle.pt_base.specs.declared.Span.{Span}
 use Rattle.pc_ast.specs.declared.programs.Item.{Item}
-use Rattle.pc_typed.specs.Breaking.{Breaks, IsFirst}
-use Rattle.pc_first.specs.First.{first_of}
-use Rattle.pc_first.proofs.Least.{first_of_broken, none_broken}
+use Rattle.pt_base.specs.First.{IsFirst}
+use Rattle.pc_typed.specs.Breaking.{Breaks}
+use Rattle.pt_base.specs.First.{first_of}
+use Rattle.pt_base.proofs.Least.{first_of_broken, none_broken}
 use Rattle.pc_faults.specs.Faults.{faults}
 use Rattle.pc_faults.proofs.Broken.{in_faults, is_broken}
 

@@ -1,7 +1,7 @@
 -- Where members of lists stand.
 use Rattle.std.proofs.Common.{◌≡◌, List, [], ◌∷◌, ◌++◌, ⊎_elim, sym, ap, subst}
 use Rattle.std.specs.Prelude.{Contains}
-use Rattle.pc_first.proofs.Elements.{in_head, in_right, in_cases, in_none}
+use Rattle.pt_base.proofs.Elements.{in_head, in_right, in_cases, in_none}
 
 pub record Split {A : Type 0} (xs : List A) (y : A) : Type 0 where
   pub before : List A

@@ -8,9 +8,9 @@ use Rattle.pt_base.specs.declared.Span.{Span}
 use Rattle.pc_ast.specs.declared.expressions.Word.{Word}
 use Rattle.pc_typed.specs.Places.{Place, same_text, is_among, is_start}
 use Rattle.pc_typed.specs.Breaking.{starts_text}
-use Rattle.pc_first.specs.First.{Fault, fault_if}
-use Rattle.pc_first.proofs.Elements.{in_none, in_left, in_right, in_either}
-use Rattle.pc_first.proofs.Least.{fault_in, in_fault}
+use Rattle.pt_base.specs.First.{Fault, fault_if}
+use Rattle.pt_base.proofs.Elements.{in_none, in_left, in_right, in_either}
+use Rattle.pt_base.proofs.Least.{fault_in, in_fault}
 use Rattle.pc_sites.specs.Sites.{seen}
 use Rattle.pc_sites.specs.Started.{one_if, started}
 use Rattle.pc_faults.specs.Faults.{repeats}

@@ -7,7 +7,7 @@ use Rattle.pc_ast.specs.declared.expressions.Word.{Word}
 use Rattle.pc_ast.specs.declared.programs.Item.{Item}
 use Rattle.pc_typed.specs.Places.{word_of, is_among, is_start, is_main, is_thread}
 use Rattle.pc_typed.specs.Breaking.{is_wrong, is_written, is_input, is_miscounted, is_main_item, is_named_main, main_place, own_of, holds_some_pause}
-use Rattle.pc_first.specs.First.{Fault, fault_if}
+use Rattle.pt_base.specs.First.{Fault, fault_if}
 use Rattle.pc_sites.specs.Sites.{Seen, sites_of}
 use Rattle.pc_sites.specs.Started.{is_unknown, started}
 

@@ -3,7 +3,8 @@ use Rattle.std.specs.Prelude.{ℕ, List, Option, None, Some}
 use Rattle.pt_base.specs.declared.Rule.{Rule}
 use Rattle.pt_base.specs.declared.Span.{Span}
 use Rattle.pc_ast.specs.declared.programs.Item.{Item}
-use Rattle.pc_typed.specs.Breaking.{Breaks, IsFirst}
+use Rattle.pt_base.specs.First.{IsFirst}
+use Rattle.pc_typed.specs.Breaking.{Breaks}
 use Rattle.pc_faults.specs.declared.finding.Fault.{Fault}
 
 -- none is broken, or this is the first

@@ -1,13 +1,12 @@
 ghost use Rattle.std.specs.Prelude.{◌≡◌, ◌++◌, [], IfOk, map};
 ghost use Rattle.pc_typed.specs.Breaking.{own_of};
 ghost use Rattle.pc_typed.specs.Places.{word_of, names_of};
-ghost use Rattle.pc_first.specs.First.{first_of};
+ghost use Rattle.pt_base.specs.First.{first_of};
 ghost use Rattle.pc_faults.specs.Faults.{repeats, own_faults};
 
 use pc_ast::{Expr, Item, Word};
-use pc_first::First;
 use pc_sites::{Names, name_of};
-use pt_base::{Memory, Rule};
+use pt_base::{First, Memory, Rule};
 use std::alloc::Global;
 
 /// Notes each word that stands there again.

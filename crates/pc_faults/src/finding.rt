@@ -2,16 +2,15 @@ ghost use Rattle.std.specs.Prelude.{◌≡◌, None, [], IfOk, find};
 ghost use Rattle.std.specs.List.{list_any};
 ghost use Rattle.pc_typed.specs.Breaking as breaking;
 ghost use Rattle.pc_sites.specs.Started.{started};
-ghost use Rattle.pc_first.specs.First.{first_of};
+ghost use Rattle.pt_base.specs.First.{first_of};
 ghost use Rattle.pc_faults.specs.Faults.{repeats, site_faults, sites_faults, pause_faults, faults};
 ghost use Rattle.pc_faults.specs.Found.{IsFound};
 
 use crate::faults::{note_items_twice, note_own_twice, note_repeats};
 use crate::pauses::hold_pauses;
 use pc_ast::Item;
-use pc_first::First;
 use pc_sites::{Site, Threads, all_sites, is_main, name_of, started_words};
-use pt_base::{Memory, Rule, Span};
+use pt_base::{First, Memory, Rule, Span};
 use std::alloc::Global;
 
 /// A broken rule, and its place.
@@ -77,10 +76,7 @@ fn main_place(items: &[Item], length: u32) -> Span
             return name.span;
         }
     }
-    Span {
-        from: length,
-        to: length,
-    }
+    Span::at_end(length)
 }
 
 fn has_main(items: &[Item]) -> bool

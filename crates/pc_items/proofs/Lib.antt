@@ -1,4 +1,3 @@
-pub mod Words
 pub mod Starts
 pub mod Parameters
 pub mod Locals

@@ -8,7 +8,7 @@ use Rattle.pc_lex.specs.declared.tokens.Sort.{Sort}
 use Rattle.pc_lex.specs.declared.tokens.Token.{Token}
 use Rattle.pc_lex.specs.declared.fronts.Front.{Front}
 use Rattle.pc_lex.specs.declared.fronts.Front.TheVariants.{Blank, Piece, Fault}
-use Rattle.pc_lex.specs.Lexing.{front_of, Ending, whole, broken, Lexes, done, blank, piece, fault, RefusedIn, InOrder, AreSlices, TextOf}
+use Rattle.pc_lex.specs.Lexing.{front_of, CutEnd, whole, broken, Lexes, done, blank, piece, fault, RefusedIn, InOrder, AreSlices, TextOf}
 use Rattle.pc_lex.proofs.Facts.{facts}
 
 abbrev pub token_at : Sort → ℕ → ℕ → Token
@@ -17,7 +17,7 @@ token_at s at to = record { sort = s; span = record { from = at; to = to } }
 -- whatever comes of the rest comes of the whole
 pub record CutSoFar (bytes : List ℕ) (tokens : List Token) (at : ℕ) (rest : List ℕ) : Type 0 where
   pub counted : at + length rest ≡ length bytes
-  pub whole : (ts : List Token) (e : Ending) → Lexes at rest ts e → Lexes 0 bytes (tokens ++ ts) e
+  pub whole : (ts : List Token) (e : CutEnd) → Lexes at rest ts e → Lexes 0 bytes (tokens ++ ts) e
 
 pub cut_begins : (bytes : List ℕ) → CutSoFar bytes [] 0 bytes
 cut_begins bytes = record { counted = omega arith; whole = λ ts e d. d }
@@ -79,7 +79,7 @@ after at n bytes text f some is rest counted =
 slice_of : (at n : ℕ) (bytes text : List ℕ) → bytes ≡ drop at text → take n bytes ≡ slice_range text at (at + n)
 slice_of at n bytes text rest = let e : n ≡ at + n - at = omega arith in ap (take n) rest ∙ ap (λ m. take m (drop at text)) e
 
-pub known : {at : ℕ} {bytes : List ℕ} {ts : List Token} {e : Ending} → Lexes at bytes ts e → (text : List ℕ) → bytes ≡ drop at text → at + length bytes ≡ length text → Known text at ts
+pub known : {at : ℕ} {bytes : List ℕ} {ts : List Token} {e : CutEnd} → Lexes at bytes ts e → (text : List ℕ) → bytes ≡ drop at text → at + length bytes ≡ length text → Known text at ts
 known done text rest counted = record { in_order = omega (arith, counted); slices = no_slices text }
 known (blank {at = at} {n = n} {bytes = bytes} {ts = ts} some is d) text rest counted =
     let next = after at n bytes text Blank some is rest counted in

@@ -12,7 +12,8 @@ use Rattle.pc_lex.specs.declared.tokens.Sort.TheVariants.{Name, Number}
 use Rattle.pc_lex.specs.declared.fronts.Front.{Front}
 use Rattle.pc_lex.specs.declared.fronts.Front.TheVariants.{Blank, Piece, Fault}
 use Rattle.pc_lex.specs.Spelling.{spelling_of, keywords, signs}
-use Rattle.pc_lex.specs.Numbers.{is_digit, is_word, number_of}
+use Rattle.pt_base.specs.Bytes.{is_digit}
+use Rattle.pc_lex.specs.Numbers.{is_word, number_of}
 use Rattle.pc_lex.specs.Lexing.{is_white, run_of, line_of, begins, closed_in, number_front, keyword_or_name, word_sort, run_front, sign_front, sign_of, comment_front, front_of, is_name, TextOf}
 use Rattle.pc_lex.proofs.Found.{found, found_among, both_first, both_second}
 use Rattle.pc_lex.proofs.Lengths.{run_words, run_within, line_within, before_some}

@@ -14,7 +14,8 @@ use Rattle.pc_lex.specs.declared.tokens.Token.{Token}
 use Rattle.pc_lex.specs.declared.fronts.Front.{Front}
 use Rattle.pc_lex.specs.declared.fronts.Front.TheVariants.{Blank, Piece, Fault}
 use Rattle.pc_lex.specs.Spelling.{spelling_of, keywords, signs}
-use Rattle.pc_lex.specs.Numbers.{is_digit, is_word, number_of}
+use Rattle.pt_base.specs.Bytes.{is_digit}
+use Rattle.pc_lex.specs.Numbers.{is_word, number_of}
 
 -- the bytes 9 to 13 and 32
 abbrev pub is_white : ℕ → Bool
@@ -88,16 +89,16 @@ front_of (b ∷ bs) =
     else if nat_eq b 47 && begins 42 bs then comment_front (closed_in (drop 1 bs))
     else sign_front (sign_of (b ∷ bs))
 
--- how a text ends
-pub data Ending : Type 0 where
-  whole : Ending
-  broken : Rule → (from to : ℕ) → Ending
+-- how the cut of a text ends: with the text, or at a fault
+pub data CutEnd : Type 0 where
+  whole : CutEnd
+  broken : Rule → (from to : ℕ) → CutEnd
 
 -- the text from the place `at` on is cut into these tokens, up to its end or to the first fault
-pub data Lexes : ℕ → List ℕ → List Token → Ending → Type 0 where
+pub data Lexes : ℕ → List ℕ → List Token → CutEnd → Type 0 where
   done : {at : ℕ} → Lexes at [] [] whole
-  blank : {at n : ℕ} {bytes : List ℕ} {ts : List Token} {e : Ending} → 0 < length bytes → front_of bytes ≡ (Blank, n) → Lexes (at + n) (drop n bytes) ts e → Lexes at bytes ts e
-  piece : {at n : ℕ} {bytes : List ℕ} {ts : List Token} {e : Ending} (s : Sort) → 0 < length bytes → front_of bytes ≡ (Piece s, n) → Lexes (at + n) (drop n bytes) ts e → Lexes at bytes (record { sort = s; span = record { from = at; to = at + n } } ∷ ts) e
+  blank : {at n : ℕ} {bytes : List ℕ} {ts : List Token} {e : CutEnd} → 0 < length bytes → front_of bytes ≡ (Blank, n) → Lexes (at + n) (drop n bytes) ts e → Lexes at bytes ts e
+  piece : {at n : ℕ} {bytes : List ℕ} {ts : List Token} {e : CutEnd} (s : Sort) → 0 < length bytes → front_of bytes ≡ (Piece s, n) → Lexes (at + n) (drop n bytes) ts e → Lexes at bytes (record { sort = s; span = record { from = at; to = at + n } } ∷ ts) e
   fault : {at n : ℕ} {bytes : List ℕ} (r : Rule) → 0 < length bytes → front_of bytes ≡ (Fault r, n) → Lexes at bytes [] (broken r at (at + n))
 
 -- the first fault of the text is this one
@@ -122,7 +123,7 @@ AreSlices bytes ts = All (λ t. TextOf t.sort (slice_range bytes t.span.from t.s
 
 -- no text is cut in two ways
 abbrev pub OneCut : Type 0
-OneCut = (bytes : List ℕ) (ts ts' : List Token) (e e' : Ending) → Lexes 0 bytes ts e → Lexes 0 bytes ts' e' → (ts ≡ ts') × (e ≡ e')
+OneCut = (bytes : List ℕ) (ts ts' : List Token) (e e' : CutEnd) → Lexes 0 bytes ts e → Lexes 0 bytes ts' e' → (ts ≡ ts') × (e ≡ e')
 
 -- no longer sign begins where a sign is read
 abbrev pub LongestSign : Type 0

@@ -1,9 +1,7 @@
 -- Bytes that make words and numbers: docs/language.md, "Tokens".
 use Rattle.std.specs.Prelude.{ℕ, ◌+◌, ◌-◌, ◌*◌, ◌^◌, Bool, true, false, not, ◌||◌, ◌&&◌, List, [], ◌∷◌, Option, Some, None, length, drop, nat_lt, nat_eq, if◌then◌else◌, codes}
 use Rattle.std.specs.List.{list_all, starts_with}
-
-abbrev pub is_digit : ℕ → Bool
-is_digit b = nat_lt 47 b && nat_lt b 58
+use Rattle.pt_base.specs.Bytes.{is_digit}
 
 -- letters, digits and `_`
 abbrev pub is_word : ℕ → Bool

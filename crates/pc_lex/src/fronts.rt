@@ -1,13 +1,13 @@
 ghost use Rattle.std.specs.Prelude.{◌≡◌, ℕ, ◌+◌, ◌^◌, ◌≤◌, ◌<◌, length, Some, None, MatchOption, IfSome, [], ◌∷◌, List, find, position, not, nat_eq, ◌&&◌, true, false};
-ghost use Rattle.std.specs.List.{list_all, starts_with};
+ghost use Rattle.std.specs.List.{starts_with};
 ghost use Rattle.pc_lex.specs.Spelling.{spelling_of};
 ghost use Rattle.pc_lex.specs.Numbers.{is_word};
-ghost use Rattle.pc_lex.specs.Lexing.{is_white, run_of, line_of, begins, closed_in, word_sort, run_front, sign_front, sign_of, comment_front, front_of, reads_name, is_name};
+ghost use Rattle.pc_lex.specs.Lexing.{is_white, run_of, line_of, begins, closed_in, word_sort, run_front, sign_front, sign_of, comment_front, front_of};
 ghost use lib.Pointwise.{pointwise};
 
-use crate::numbers::{digit, number, word_byte};
+use crate::numbers::{number, word_byte};
 use crate::tokens::{Sort, keyword_sorts, sign_sorts, spelling};
-use pt_base::Rule;
+use pt_base::{Rule, is_digit};
 
 /// What a text begins with.
 #[derive(Clone, Copy)]
@@ -61,17 +61,6 @@ fn line(bytes: &[u8]) -> usize
     }
 }
 
-/// The first byte, and those after it.
-fn split(bytes: &[u8]) -> Option<(u8, &[u8])>
-    ensures { MatchOption result (bytes.now ≡ []) (λ p. bytes.now ≡ p.0 ∷ p.1.now) }
-{
-    if bytes.len() == 0 {
-        None
-    } else {
-        Some((bytes[0], &bytes[1..]))
-    }
-}
-
 fn begins_with(bytes: &[u8], b: u8) -> bool
     ensures { result ≡ begins b bytes.now }
 {
@@ -96,8 +85,8 @@ fn closed(bytes: &[u8]) -> Option<usize>
 {
     let mut count = 0;
     let mut rest = bytes;
-    while let Some((b, tail)) = split(rest) {
-        if closes(b, tail) {
+    while let Some((b, tail)) = rest.split_first() {
+        if closes(*b, tail) {
             return Some(count + 2);
         }
         count += 1;
@@ -149,34 +138,11 @@ fn front_of_run(run: &[u8]) -> Front
     if run.len() == 0 {
         return Front::Fault(Rule::L1);
     }
-    if digit(run[0]) {
+    if is_digit(run[0]) {
         number(run)
     } else {
         Front::Piece(keyword_or_name_of(run))
     }
-}
-
-fn is_run(text: &[u8]) -> bool
-    ensures { result ≡ list_all is_word text.now }
-{
-    text.iter().all(|b| word_byte(*b))
-}
-
-fn reads_as_name(run: &[u8]) -> bool
-    ensures { result ≡ reads_name (run_front run.now) }
-{
-    match front_of_run(run) {
-        Front::Piece(Sort::Name) => true,
-        _ => false,
-    }
-}
-
-/// Whether the text is a name: letters, digits and `_` that begin with no digit and are no keyword.
-#[tactic(auto, unfolding(crate::specs::Lexing::is_name))]
-pub fn is_name_text(text: &[u8]) -> bool
-    ensures { result ≡ is_name text.now }
-{
-    is_run(text) && reads_as_name(text)
 }
 
 #[tactic(auto, unfolding(crate::specs::Lexing::sign_of))]
@@ -203,20 +169,20 @@ fn front_of_comment(body: &[u8]) -> (Front, usize)
 fn read_front(bytes: &[u8]) -> (Front, usize)
     ensures { result ≡ front_of bytes.now }
 {
-    let Some((b, rest)) = split(bytes) else {
+    let Some((b, rest)) = bytes.split_first() else {
         return (Front::Fault(Rule::L1), 0);
     };
-    if white_byte(b) {
+    if white_byte(*b) {
         return (Front::Blank, 1);
     }
-    if word_byte(b) {
+    if word_byte(*b) {
         let n = run(bytes);
         return (front_of_run(&bytes[..n]), n);
     }
-    if b == 47 && begins_with(rest, 47) {
+    if *b == 47 && begins_with(rest, 47) {
         return (Front::Blank, line(bytes));
     }
-    if b == 47 && begins_with(rest, 42) {
+    if *b == 47 && begins_with(rest, 42) {
         return front_of_comment(&rest[1..]);
     }
     front_of_sign(bytes)

@@ -3,7 +3,7 @@ ghost use Rattle.pc_lex.specs.Lexing.{whole, Lexes, RefusedIn, InOrder, AreSlice
 
 use crate::fronts::{Front, look};
 use crate::tokens::{Token, Tokens};
-use pt_base::{Many, Refusal, Span, Text};
+use pt_base::{MOST_SOURCE_BYTES, Many, Refusal, Span, Text};
 use std::alloc::Global;
 
 /// The bytes after the first n.
@@ -17,7 +17,7 @@ fn skip(bytes: &[u8], n: usize) -> &[u8]
 /// The tokens of a source, or the first rule of `L1`, `L2`, `L3` that it breaks, from the left, with its place.
 #[tactic(auto, using(crate::proofs::Cuts::cut_steps))]
 pub fn lex(alloc: Global, text: &Text) -> Result<Tokens, Refusal>
-    requires { length text.now ≤ 1048576 }
+    requires { length text.now ≤ MOST_SOURCE_BYTES }
     ensures tokens { IfOk result (λ ts. Lexes 0 text.now ts.tokens whole) }
     ensures length { IfOk result (λ ts. ts.length ≡ length text.now) }
     ensures in_order { IfOk result (λ ts. InOrder 0 ts.tokens ts.length) }
@@ -34,9 +34,7 @@ pub fn lex(alloc: Global, text: &Text) -> Result<Tokens, Refusal>
             Front::Blank => {}
             Front::Piece(sort) => {
                 let span = Span { from: at, to };
-                let Ok(()) = tokens.push(Token { sort, span }) else {
-                    return Err(Refusal::Memory);
-                };
+                tokens.push(Token { sort, span })?;
             }
             Front::Fault(rule) => {
                 return Err(Refusal::Broken {

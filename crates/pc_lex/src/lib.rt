@@ -9,9 +9,7 @@ mod lexer;
 mod numbers;
 mod tokens;
 
-pub use fronts::{is_name_text, white_byte};
 pub use lexer::{lex, longest_sign, one_cut};
-pub use numbers::{decimal_number, word_byte};
 pub use tokens::{Sort, Token, Tokens, keyword_sorts, sign_sorts, spelling};
 
 #[cfg(test)]

@@ -1,29 +1,24 @@
 ghost use Rattle.std.specs.Prelude.{◌≡◌, ◌≤◌, ◌&&◌};
 ghost use Rattle.std.specs.List.{list_all};
-ghost use Rattle.pc_lex.specs.Numbers.{is_digit, is_word, is_hexadecimal, digit_value, value_of, number_of, decimal_of, hexadecimal_of, has_no_leading_zero, is_some_digits, within_32_bits};
+ghost use Rattle.pt_base.specs.Bytes.{is_digit as digit_test};
+ghost use Rattle.pc_lex.specs.Numbers.{is_word, is_hexadecimal, digit_value, value_of, number_of, decimal_of, hexadecimal_of, has_no_leading_zero, is_some_digits, within_32_bits};
 ghost use Rattle.pc_lex.specs.Lexing.{number_front};
 
 use crate::fronts::Front;
 use crate::tokens::Sort;
-use pt_base::Rule;
-
-pub fn digit(b: u8) -> bool
-    ensures { result ≡ is_digit b }
-{
-    47 < b && b < 58
-}
+use pt_base::{Rule, is_digit};
 
 /// Whether the byte is a letter, a digit or `_`.
 pub fn word_byte(b: u8) -> bool
     ensures { result ≡ is_word b }
 {
-    digit(b) || (64 < b && b < 91) || (96 < b && b < 123) || b == 95
+    is_digit(b) || (64 < b && b < 91) || (96 < b && b < 123) || b == 95
 }
 
 fn hexadecimal_digit(b: u8) -> bool
     ensures { result ≡ is_hexadecimal b }
 {
-    digit(b) || (64 < b && b < 71) || (96 < b && b < 103)
+    is_digit(b) || (64 < b && b < 71) || (96 < b && b < 103)
 }
 
 /// What a digit counts, where it is one; 255 at most in any case.
@@ -57,13 +52,13 @@ fn number_in(base: u64, digits: &[u8]) -> Option<u32>
 }
 
 fn all_decimal(digits: &[u8]) -> bool
-    ensures { result ≡ list_all is_digit digits.now }
+    ensures { result ≡ list_all digit_test digits.now }
 {
-    digits.iter().all(|d| digit(*d))
+    digits.iter().all(|d| is_digit(*d))
 }
 
 fn is_decimal(digits: &[u8]) -> bool
-    ensures { result ≡ (list_all is_digit digits.now && has_no_leading_zero digits.now) }
+    ensures { result ≡ (list_all digit_test digits.now && has_no_leading_zero digits.now) }
 {
     all_decimal(digits) && no_leading_zero(digits)
 }
@@ -134,17 +129,5 @@ pub fn number(run: &[u8]) -> Front
         hexadecimal(&run[2..])
     } else {
         decimal(run)
-    }
-}
-
-/// The number that decimal digits without a leading 0 spell, where it is one of 32 bits.
-#[tactic(auto, unfolding(crate::specs::Numbers::decimal_of))]
-pub fn decimal_number(text: &[u8]) -> Option<u32>
-    ensures { result ≡ within_32_bits (decimal_of text.now) }
-{
-    if is_decimal(text) {
-        number_in(10, text)
-    } else {
-        None
     }
 }

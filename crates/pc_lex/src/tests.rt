@@ -1,10 +1,10 @@
 use crate::{Sort, Tokens, lex, spelling};
-use pt_base::{Refusal, Rule, Text};
+use pt_base::{MOST_SOURCE_BYTES, Refusal, Rule, Text};
 use std::alloc::{AllocError, Global};
 use std::test::Fail;
 
 fn tokens_of(alloc: Global, bytes: &[u8]) -> Result<Tokens, Refusal> {
-    if 1_048_576 < bytes.len() {
+    if bytes.len() > MOST_SOURCE_BYTES as usize {
         return Err(Refusal::Memory);
     }
     let text = Text::of(alloc, bytes)?;

@@ -5,7 +5,8 @@ use Rattle.pt_base.specs.declared.Span.{Span}
 use Rattle.pt_base.specs.declared.Refusal.{Refusal}
 use Rattle.pt_base.specs.declared.Refusal.TheVariants.{Broken, Memory}
 use Rattle.pc_parse.specs.Trees.{Program}
-use Rattle.pc_typed.specs.Breaking.{Breaks, IsFirst}
+use Rattle.pt_base.specs.First.{IsFirst}
+use Rattle.pc_typed.specs.Breaking.{Breaks}
 use Rattle.pc_typed.specs.Typing.{Typing, typing_of}
 
 -- no rule on names is broken, and this is the tree with numbers for names

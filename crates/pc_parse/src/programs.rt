@@ -42,10 +42,7 @@ fn place(rest: &[Token], length: u32) -> Span
 {
     match split(rest) {
         Some((token, _)) => token.span,
-        None => Span {
-            from: length,
-            to: length,
-        },
+        None => Span::at_end(length),
     }
 }
 

@@ -14,7 +14,8 @@ use Rattle.pc_lex.specs.declared.tokens.Sort.TheVariants.{Name, Number, OpenPare
 use Rattle.pc_lex.specs.declared.fronts.Front.{Front}
 use Rattle.pc_lex.specs.declared.fronts.Front.TheVariants.{Blank, Piece}
 use Rattle.pc_lex.specs.Spelling.{spelling_of, signs}
-use Rattle.pc_lex.specs.Numbers.{is_digit, is_word, digit_value, value_of, has_no_leading_zero, decimal_of, number_of}
+use Rattle.pt_base.specs.Bytes.{is_digit}
+use Rattle.pc_lex.specs.Numbers.{is_word, digit_value, value_of, has_no_leading_zero, decimal_of, number_of}
 use Rattle.pc_lex.specs.Lexing.{is_white, before, run_of, begins, run_front, reads_name, is_name, sign_of, front_of}
 use Rattle.pc_lex.proofs.Found.{both_first, both_second}
 use Rattle.pt_lines.proofs.NumberLaws.{leads}

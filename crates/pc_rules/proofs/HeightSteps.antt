@@ -11,7 +11,7 @@ use Rattle.pc_ast.specs.declared.statements.Stmt.TheViews.{roll-Stmt}
 use Rattle.pc_ast.specs.declared.statements.Stmt.TheOpen.{Stmt-F, Skip, Assign, Call, Block, If, While, Eot, Par, Abort}
 use Rattle.pc_typed.specs.declared.typed.Function.{Function}
 use Rattle.pc_rules.specs.Marks.{known_height, greatest, height_step, called_height, function_height, heights_from}
-use Rattle.pc_first.specs.First.{Fault, first_of, fault_if}
+use Rattle.pt_base.specs.First.{Fault, first_of, fault_if}
 use Rattle.pc_rules.specs.Faults.{tall_faults}
 
 -- ---- the height of a statement up to a bound comes from those of the functions up to the bound

@@ -8,17 +8,17 @@ use Rattle.pt_base.specs.declared.rules.Rule.TheVariants.{E1, E2, Z2, Z3, Z4, Z5
 use Rattle.pt_base.specs.declared.rules.Span.{Span}
 use Rattle.pc_typed.specs.declared.typed.Function.{Function}
 use Rattle.pc_typed.specs.Uses.{holds_pause}
-use Rattle.pc_typed.specs.Breaking.{end_of}
+use Rattle.pt_base.specs.First.{end_of}
 use Rattle.pc_typed.specs.Finishing.{finishes, finishing}
 use Rattle.pc_typed.specs.Typing.{Typing}
 use Rattle.pc_weights.specs.Weights.{program_weight, program_single}
 use Rattle.pc_rules.specs.Marks.{Mark, Loop, Aborted, program_marks, heights}
 use Rattle.pc_rules.specs.Judging.{count, is_input, is_output, BreaksRule, may_finish, pauses, BreaksLimit, threads, words, aborts, loops, height, weight, single, inputs, outputs, IsWithin, IsVerdict, rule_broken, limit_broken}
-use Rattle.pc_first.specs.First.{Fault, first_of, fault_if}
+use Rattle.pt_base.specs.First.{Fault, first_of, fault_if}
 use Rattle.pc_rules.specs.Faults.{rule_faults_at, nesting_faults_at, tall_faults, is_thread, whole_faults, rule_faults, limit_faults, note_mark}
 use Rattle.pc_rules.specs.declared.noting.Noted.{Noted}
-use Rattle.pc_first.proofs.Elements.{in_none, in_left, in_right, in_either, in_flat, flat_in}
-use Rattle.pc_first.proofs.Least.{fault_in, in_fault, Listed, first_of_broken, none_broken}
+use Rattle.pt_base.proofs.Elements.{in_none, in_left, in_right, in_either, in_flat, flat_in}
+use Rattle.pt_base.proofs.Least.{fault_in, in_fault, Listed, first_of_broken, none_broken}
 
 -- ---- the rules on loops
 

@@ -13,7 +13,7 @@ use Rattle.pc_ast.specs.declared.statements.Stmt.TheFolds.{map-Stmt, ind-Stmt}
 use Rattle.pc_rules.specs.Marks.{Mark, Loop, Aborted, joined, one_more, all_marks, marks_step, marks}
 use Rattle.pt_base.specs.declared.rules.Rule.TheVariants.{E2, Z4, Z5}
 use Rattle.pc_typed.specs.Uses.{holds_pause}
-use Rattle.pc_first.specs.First.{first_of, fault_if}
+use Rattle.pt_base.specs.First.{first_of, fault_if}
 use Rattle.pc_rules.specs.Faults.{note_mark}
 use Rattle.pc_rules.specs.declared.noting.Noted.{Noted}
 

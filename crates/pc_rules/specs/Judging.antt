@@ -1,5 +1,7 @@
 -- The rules on loops and the limits, each as a condition on the whole program, and the verdict: docs/language.md, "Loops and limits".
 use Rattle.std.specs.Prelude.{◌≡◌, ℕ, ◌+◌, ◌<◌, ◌≤◌, Bool, true, false, List, [], ◌∷◌, Some, None, Contains, Result, Ok, Err, sum_by, slice_get, if◌then◌else◌}
+use Rattle.pt_base.specs.First.{IsFirst, end_of}
+use Rattle.pt_base.specs.declared.limits.TheConstants.{MOST_THREADS, MOST_CELL_WORDS, MOST_NESTED, MOST_HEIGHT, MOST_WEIGHT, MOST_PASSAGE, MOST_PORTS}
 use Rattle.pt_base.specs.declared.Rule.{Rule}
 use Rattle.pt_base.specs.declared.Rule.TheVariants.{E1, E2, Z2, Z3, Z4, Z5, Z6, Z7, Z8, Z9}
 use Rattle.pt_base.specs.declared.Span.{Span}
@@ -11,7 +13,6 @@ use Rattle.pc_ast.specs.declared.Stmt.{Stmt}
 use Rattle.pc_typed.specs.declared.Cell.{Cell}
 use Rattle.pc_typed.specs.declared.Function.{Function}
 use Rattle.pc_typed.specs.Uses.{holds_pause}
-use Rattle.pc_typed.specs.Breaking.{IsFirst, end_of}
 use Rattle.pc_typed.specs.Finishing.{finishes, finishing}
 use Rattle.pc_typed.specs.Typing.{Typing}
 use Rattle.pc_weights.specs.Weights.{program_weight, program_single}
@@ -44,15 +45,15 @@ pub data BreaksRule (t : Typing) : Rule → Span → Type 0 where
 
 -- the limits
 pub data BreaksLimit (t : Typing) : Rule → Span → Type 0 where
-  threads : 64 < count (λ f. f.thread) t.functions → BreaksLimit t Z2 (end_of t.length)
-  words : 15000 < sum_by (λ cell. cell.size) t.cells → BreaksLimit t Z3 (end_of t.length)
-  aborts : (span : Span) (n : ℕ) → Contains (program_marks t) (Aborted span n) → 8 ≤ n → BreaksLimit t Z4 span
-  loops : (span : Span) (most : ℕ) (body : Stmt ℕ) (n : ℕ) → Contains (program_marks t) (Loop span (Some most) body n) → 8 ≤ n → BreaksLimit t Z5 span
-  height : (i h : ℕ) (f : Function) → slice_get t.functions i ≡ Some f → slice_get (heights t.functions) i ≡ Some h → f.thread ≡ false → 16 < h → BreaksLimit t Z6 f.name.span
-  weight : 60000 < program_weight t → BreaksLimit t Z7 (end_of t.length)
-  single : 2000000 < program_single t → BreaksLimit t Z8 (end_of t.length)
-  inputs : 64 < count is_input t.cells → BreaksLimit t Z9 (end_of t.length)
-  outputs : 64 < count is_output t.cells → BreaksLimit t Z9 (end_of t.length)
+  threads : MOST_THREADS < count (λ f. f.thread) t.functions → BreaksLimit t Z2 (end_of t.length)
+  words : MOST_CELL_WORDS < sum_by (λ cell. cell.size) t.cells → BreaksLimit t Z3 (end_of t.length)
+  aborts : (span : Span) (n : ℕ) → Contains (program_marks t) (Aborted span n) → MOST_NESTED ≤ n → BreaksLimit t Z4 span
+  loops : (span : Span) (most : ℕ) (body : Stmt ℕ) (n : ℕ) → Contains (program_marks t) (Loop span (Some most) body n) → MOST_NESTED ≤ n → BreaksLimit t Z5 span
+  height : (i h : ℕ) (f : Function) → slice_get t.functions i ≡ Some f → slice_get (heights t.functions) i ≡ Some h → f.thread ≡ false → MOST_HEIGHT < h → BreaksLimit t Z6 f.name.span
+  weight : MOST_WEIGHT < program_weight t → BreaksLimit t Z7 (end_of t.length)
+  single : MOST_PASSAGE < program_single t → BreaksLimit t Z8 (end_of t.length)
+  inputs : MOST_PORTS < count is_input t.cells → BreaksLimit t Z9 (end_of t.length)
+  outputs : MOST_PORTS < count is_output t.cells → BreaksLimit t Z9 (end_of t.length)
 
 -- nothing is broken
 pub record IsWithin (t : Typing) : Type 0 where

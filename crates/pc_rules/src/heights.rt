@@ -3,11 +3,11 @@ ghost use Rattle.pc_rules.specs.Marks.{known_height, greatest, called_height, fu
 
 use pc_ast::Stmt;
 use pc_typed::Function;
-use pt_base::Memory;
+use pt_base::{MOST_HEIGHT, Memory};
 use std::alloc::Global;
 
 /// The height that stands for itself and for every greater one.
-const TALL: u64 = 17;
+const TALL: u64 = MOST_HEIGHT as u64 + 1;
 
 /// What is known of a function by its number.
 pub fn known_of(known: &[u64], function: usize) -> u64
@@ -68,7 +68,7 @@ fn all_called(all: &[Stmt<u32>], known: &[u64]) -> u64
 }
 
 fn height(f: &Function, known: &[u64]) -> u64
-    ensures { result ≡ min 17 (function_height known.now f.now) }
+    ensures { result ≡ min TALL (function_height known.now f.now) }
 {
     all_called(f.body.as_slice(), known)
         .saturating_add(1)
@@ -77,7 +77,7 @@ fn height(f: &Function, known: &[u64]) -> u64
 
 /// The height of each function, each from those before it.
 pub fn of_each(alloc: Global, functions: &[Function]) -> Result<Vec<u64>, Memory>
-    ensures { IfOk result (λ known. known.items ≡ map (min 17) (heights functions.now)) }
+    ensures { IfOk result (λ known. known.items ≡ map (min TALL) (heights functions.now)) }
 {
     let mut known: Vec<u64> = Vec::new(alloc);
     for f in functions {

@@ -2,28 +2,17 @@ ghost use Rattle.std.specs.Prelude.{◌≡◌, ◌++◌, min, not, ◌&&◌, nat
 ghost use Rattle.pc_weights.specs.Weights.{program_single};
 ghost use Rattle.pc_rules.specs.Marks.{heights};
 ghost use Rattle.pc_rules.specs.Judging.{is_input, is_output};
-ghost use Rattle.pc_first.specs.First.{first_of};
+ghost use Rattle.pt_base.specs.First.{first_of};
 ghost use Rattle.pc_rules.specs.Faults.{is_thread, tall_faults, whole_faults};
 
 use crate::heights::{known_of, of_each};
 use pc_ast::CellKind;
-use pc_first::First;
 use pc_typed::{Cell, Function, Typed};
 use pc_weights::{single, weight};
-use pt_base::{Memory, Rule, Span};
+use pt_base::{
+    First, MOST_CELL_WORDS, MOST_HEIGHT, MOST_PASSAGE, MOST_PORTS, MOST_THREADS, MOST_WEIGHT, Memory, Rule, Span,
+};
 use std::alloc::Global;
-
-const MOST_THREADS: usize = 64;
-
-const MOST_CELL_WORDS: u64 = 15_000;
-
-const MOST_HEIGHT: u64 = 16;
-
-const MOST_WEIGHT: u64 = 60_000;
-
-const MOST_SINGLE: u64 = 2_000_000;
-
-const MOST_OUTSIDE: usize = 64;
 
 fn input(cell: &Cell) -> bool
     ensures { result ≡ is_input cell.now }
@@ -66,23 +55,23 @@ pub fn threads(functions: &[Function]) -> usize
     total
 }
 
-/// The words of all cells, and 15,001 for every greater number.
+/// The words of all cells, and one more than the most for every greater number.
 pub fn cell_words(cells: &[Cell]) -> u64
-    ensures { result ≡ min 15001 (sum_by (λ cell. cell.size) cells.now) }
+    ensures { result ≡ min (MOST_CELL_WORDS + 1) (sum_by (λ cell. cell.size) cells.now) }
 {
     let mut total: u64 = 0;
     for cell in cells {
         total = total
             .saturating_add(u64::from(cell.size))
-            .min(MOST_CELL_WORDS + 1);
+            .min(u64::from(MOST_CELL_WORDS) + 1);
     }
     total
 }
 
 fn is_tall(f: &Function, height: u64) -> bool
-    ensures { result ≡ (not f.now.thread && nat_lt 16 height) }
+    ensures { result ≡ (not f.now.thread && nat_lt MOST_HEIGHT height) }
 {
-    !f.thread && height > MOST_HEIGHT
+    !f.thread && height > u64::from(MOST_HEIGHT)
 }
 
 fn tall(first: First, functions: &[Function], heights: &[u64]) -> First
@@ -97,20 +86,17 @@ fn tall(first: First, functions: &[Function], heights: &[u64]) -> First
 }
 
 fn whole(first: First, typed: &Typed, single: u64) -> First
-    requires { single ≡ min 2000001 (program_single typed.now) }
+    requires { single ≡ min (MOST_PASSAGE + 1) (program_single typed.now) }
     ensures { result ≡ first_of first (whole_faults typed.now) }
 {
-    let end = Span {
-        from: typed.length(),
-        to: typed.length(),
-    };
+    let end = Span::at_end(typed.length());
     first
-        .note_if(threads(typed.functions()) > MOST_THREADS, Rule::Z2, end)
-        .note_if(cell_words(typed.cells()) > MOST_CELL_WORDS, Rule::Z3, end)
-        .note_if(weight(typed) > MOST_WEIGHT, Rule::Z7, end)
-        .note_if(single > MOST_SINGLE, Rule::Z8, end)
-        .note_if(inputs(typed.cells()) > MOST_OUTSIDE, Rule::Z9, end)
-        .note_if(outputs(typed.cells()) > MOST_OUTSIDE, Rule::Z9, end)
+        .note_if(threads(typed.functions()) > MOST_THREADS as usize, Rule::Z2, end)
+        .note_if(cell_words(typed.cells()) > u64::from(MOST_CELL_WORDS), Rule::Z3, end)
+        .note_if(weight(typed) > u64::from(MOST_WEIGHT), Rule::Z7, end)
+        .note_if(single > u64::from(MOST_PASSAGE), Rule::Z8, end)
+        .note_if(inputs(typed.cells()) > MOST_PORTS as usize, Rule::Z9, end)
+        .note_if(outputs(typed.cells()) > MOST_PORTS as usize, Rule::Z9, end)
 }
 
 /// The limits on functions and on the whole program.

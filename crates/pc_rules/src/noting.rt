@@ -2,16 +2,12 @@ ghost use Rattle.std.specs.Prelude.{◌≡◌, ◌+◌, min, fold, map, None};
 ghost use Rattle.pc_typed.specs.Uses.{holds_pause, any_of};
 ghost use Rattle.pc_typed.specs.Finishing.{finishing};
 ghost use Rattle.pc_rules.specs.Marks.{Loop, Aborted, joined, one_more, marks, function_marks};
-ghost use Rattle.pc_first.specs.First.{first_of};
+ghost use Rattle.pt_base.specs.First.{first_of};
 ghost use Rattle.pc_rules.specs.Faults.{nesting_faults_at, note_mark};
 
 use pc_ast::Stmt;
-use pc_first::First;
 use pc_typed::{Function, Typed, may_finish};
-use pt_base::{Rule, Span};
-
-/// How many aborts of a function, and how many of its loops with `#n`, an abort or such a loop may not stand in.
-const DEEP: u32 = 8;
+use pt_base::{First, MOST_NESTED, Rule, Span};
 
 /// The first fault of the rules on loops, and the first of the limits.
 #[derive(Clone, Copy)]
@@ -48,7 +44,7 @@ impl Noted {
             },
             Some(_) => Noted {
                 rules: self.rules.note_if(holds(body), Rule::E2, span),
-                limits: self.limits.note_if(loops >= DEEP, Rule::Z5, span),
+                limits: self.limits.note_if(loops >= MOST_NESTED, Rule::Z5, span),
             },
         }
     }
@@ -58,7 +54,7 @@ impl Noted {
     {
         Noted {
             rules: self.rules,
-            limits: self.limits.note_if(aborts >= DEEP, Rule::Z4, span),
+            limits: self.limits.note_if(aborts >= MOST_NESTED, Rule::Z4, span),
         }
     }
 }
@@ -107,16 +103,16 @@ fn some_holds(all: &[Stmt<u32>]) -> bool
 }
 
 fn deeper(n: u32) -> u32
-    ensures { result ≡ min 8 (n + 1) }
+    ensures { result ≡ min MOST_NESTED (n + 1) }
 {
-    n.saturating_add(1).min(DEEP)
+    n.saturating_add(1).min(MOST_NESTED)
 }
 
 fn within(most: Option<u32>, loops: u32) -> u32
-    ensures { result ≡ min 8 (one_more most loops) }
+    ensures { result ≡ min MOST_NESTED (one_more most loops) }
 {
     match most {
-        None => loops.min(DEEP),
+        None => loops.min(MOST_NESTED),
         Some(_) => deeper(loops),
     }
 }

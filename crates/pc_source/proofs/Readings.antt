@@ -6,13 +6,14 @@ use Rattle.pc_lex.specs.declared.Token.{Token}
 use Rattle.pc_lex.specs.Lexing as lexing
 use Rattle.pc_parse.specs.Programs.{IsProgram, IsBroken, RefusedIn}
 use Rattle.pc_parse.specs.Trees.{Program}
-use Rattle.pc_source.specs.Sources.{source_most, no_tokens, no_program, IsRead}
+use Rattle.pt_base.specs.declared.limits.TheConstants.{MOST_SOURCE_BYTES}
+use Rattle.pc_source.specs.Sources.{no_tokens, no_program, IsRead}
 
-pub unlexed : (text : List ℕ) (f : Refusal) → length text ≤ source_most → lexing.RefusedIn text f → IsRead text (Err f)
+pub unlexed : (text : List ℕ) (f : Refusal) → length text ≤ MOST_SOURCE_BYTES → lexing.RefusedIn text f → IsRead text (Err f)
 unlexed text (Broken rule span) short l = no_tokens (l.0) short (l.1)
 unlexed text Memory short l = tt
 
-pub parsed : (text : List ℕ) (tokens : List Token) (count : ℕ) (r : Result Program Refusal) → length text ≤ source_most → lexing.Lexes 0 text tokens lexing.whole → count ≡ length text →
+pub parsed : (text : List ℕ) (tokens : List Token) (count : ℕ) (r : Result Program Refusal) → length text ≤ MOST_SOURCE_BYTES → lexing.Lexes 0 text tokens lexing.whole → count ≡ length text →
     IfOk r (λ p. IsProgram text tokens p.items) → IfOk r (λ p. p.length ≡ count) → IfErr r (λ f. RefusedIn text tokens count f) → IsRead text r
 parsed text tokens count (Ok p) short cut same s l f = record { short = short; tokens = tokens; cut = cut; spelled = s; length_is = l ∙ same }
 parsed text tokens count (Err (Broken rule span)) short cut same s l f =

@@ -1,8 +1,9 @@
--- The rules on names, each as a condition on the whole program, and the first that is broken: docs/language.md, "Names".
+-- The rules on names, each as a condition on the whole program: docs/language.md, "Names".
 use Rattle.std.specs.Prelude.{◌≡◌, ℕ, ◌<◌, ◌≤◌, Bool, true, false, ◌||◌, ◌&&◌, not, List, [], ◌∷◌, ◌++◌, Option, Some, None, Contains, find, length, nat_eq}
 use Rattle.std.specs.List.{list_any}
+use Rattle.pt_base.specs.First.{end_of}
 use Rattle.pt_base.specs.declared.Rule.{Rule}
-use Rattle.pt_base.specs.declared.Rule.TheVariants.{Z1, L1, L2, L3, S1, N1, N2, N3, N4, N5, N6, N7, N8, E1, E2, Z2, Z3, Z4, Z5, Z6, Z7, Z8, Z9}
+use Rattle.pt_base.specs.declared.Rule.TheVariants.{N1, N2, N3, N4, N5, N6, N7, N8}
 use Rattle.pt_base.specs.declared.Span.{Span}
 use Rattle.pc_ast.specs.declared.expressions.Word.{Word}
 use Rattle.pc_ast.specs.declared.programs.CellKind.{CellKind}
@@ -78,9 +79,6 @@ is_main_item _ = false
 abbrev pub is_named_main : Item → Bool
 is_named_main item = is_main (word_of item)
 
-abbrev pub end_of : ℕ → Span
-end_of length = record { from = length; to = length }
-
 -- the name of the first item `main`, or the end
 abbrev pub main_place : ℕ → Option Item → Span
 main_place length None = end_of length
@@ -112,40 +110,3 @@ pub data Breaks (items : List Item) (end : ℕ) : Rule → Span → Type 0 where
   started_twice : (before after : List Place) (p : Place) → places items ≡ before ++ p ∷ after → is_start p.role ≡ true →
       is_main p.word || list_any (starts_text p.word) before ≡ true → Breaks items end N7 p.word.span
   no_thread : (i : Item) → Contains items i → is_thread items (word_of i) ≡ false → holds_some_pause i ≡ true → Breaks items end N8 (word_of i).span
-
--- ---- the first
-
-abbrev pub number_of : Rule → ℕ
-number_of Z1 = 0
-number_of L1 = 1
-number_of L2 = 2
-number_of L3 = 3
-number_of S1 = 4
-number_of N1 = 5
-number_of N2 = 6
-number_of N3 = 7
-number_of N4 = 8
-number_of N5 = 9
-number_of N6 = 10
-number_of N7 = 11
-number_of N8 = 12
-number_of E1 = 13
-number_of E2 = 14
-number_of Z2 = 15
-number_of Z3 = 16
-number_of Z4 = 17
-number_of Z5 = 18
-number_of Z6 = 19
-number_of Z7 = 20
-number_of Z8 = 21
-number_of Z9 = 22
-
--- by the start of the span, then by the rule
-pub data ComesFirst (rule other : Rule) (span another : Span) : Type 0 where
-  earlier : span.from < another.from → ComesFirst rule other span another
-  here : span.from ≡ another.from → number_of rule ≤ number_of other → ComesFirst rule other span another
-
--- of what is broken by `B` this comes first
-pub record IsFirst (B : Rule → Span → Type 0) (rule : Rule) (span : Span) : Type 0 where
-  pub broken : B rule span
-  pub least : (other : Rule) (another : Span) → B other another → ComesFirst rule other span another

@@ -1,7 +1,7 @@
 -- The counts of a program within the limits are whole.
 use Rattle.std.proofs.Common.{◌≡◌, ℕ, ◌<◌, ◌+◌, min, count_by, sum_by, refl, ◌∙◌, arith}
 use Rattle.pt_trace.specs.Accepted.{accepted_line}
-use Rattle.pc_typed.specs.Breaking.{end_of}
+use Rattle.pt_base.specs.First.{end_of}
 use Rattle.pc_typed.specs.Typing.{Typing}
 use Rattle.pc_weights.specs.Weights.{program_weight, program_single}
 use Rattle.pc_rules.specs.Judging.{IsWithin, words, weight, single}

@@ -1,8 +1,8 @@
 -- What the code's operators give, as whole numbers modulo 2^32.
-use Rattle.std.proofs.Common.{◌≡◌, ℕ, zero, suc, ◌-◌, ◌%◌, ◌^◌, ◌<◌, ◌≤◌, ℤ, pos, negsuc, ◌*ℤ◌, neg_ℤ, FitsSigned, refl, sym, ap, ◌∙◌, arith}
+use Rattle.std.proofs.Common.{◌≡◌, ℕ, zero, suc, ◌+◌, ◌-◌, ◌%◌, ◌^◌, ◌<◌, ◌≤◌, ℤ, pos, negsuc, ◌*ℤ◌, neg_ℤ, FitsSigned, refl, sym, ap, ◌∙◌, arith, zero-add}
 use Rattle.std.specs.Int.{w32, int_wrap, int_shl, cast_signed, cast_unsigned}
 use Rattle.std.specs.Int.RustNames.{int_div, unsigned_abs}
-use Rattle.std.proofs.Math.Nat.{div-le_self}
+use Rattle.std.proofs.Math.Nat.{div-le_self, mod-eq_of_lt}
 use Rattle.std.specs.Int.{int_wrapping_div}
 use Rattle.pt_base.specs.Operators.{quotient_of}
 use Rattle.std.proofs.lemmas.Int.{ints, wrapping_mul-bits, int_wrap-mul_right, to_z-of_z}
@@ -47,3 +47,19 @@ pub quotient_is : (a b : ℤ) → FitsSigned w32 a → (cast_unsigned w32 b ≡ 
 quotient_is a (pos zero) f h = absurd (h refl)
 quotient_is a (pos (suc b)) f h = sym (wrap_bits (int_div a (pos (suc b))) (quotient_fits a (pos (suc b)) f))
 quotient_is a (negsuc b) f h = sym (wrap_bits (int_div a (negsuc b)) (quotient_fits a (negsuc b) f))
+
+-- ---- the words of a number and of a negated number, from the bits that adding them to 0 and taking them from 0 leaves
+
+pub positive_is : (v : ℕ) → cast_signed w32 ((0 + v) % 2 ^ 32) ≡ int_wrap w32 (pos v)
+unfolding int_wrap
+positive_is v = ap (λ n. cast_signed w32 (n % 4294967296)) (zero-add v)
+
+pub negative_is : (v : ℕ) → v < 2 ^ 32 → cast_signed w32 ((0 + (2 ^ 32 - v)) % 2 ^ 32) ≡ int_wrap w32 (neg_ℤ (pos v))
+unfolding int_wrap
+negative_is zero small = refl
+negative_is (suc k) small =
+    let below : k < 4294967296 = omega arith in
+    let left : (0 + (4294967296 - suc k)) % 4294967296 ≡ 4294967296 - suc k = let h : 0 + (4294967296 - suc k) < 4294967296 = omega arith in mod-eq_of_lt h ∙ zero-add (4294967296 - suc k) in
+    let right : k % 4294967296 ≡ k = mod-eq_of_lt below in
+    let e : (0 + (4294967296 - suc k)) % 4294967296 ≡ 4294967296 - 1 - k % 4294967296 = omega (arith, left, right) in
+    ap (λ n. cast_signed w32 n) e

@@ -1,1 +1,3 @@
 pub mod Operators
+pub mod Bytes
+pub mod First

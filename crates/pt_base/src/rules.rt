@@ -1,4 +1,8 @@
 ghost use Rattle.std.specs.Prelude.{◌≡◌};
+ghost use Rattle.pt_base.specs.First.{end_of};
+ghost use Rattle.pt_base.specs.declared.rules.Refusal.TheVariants.{Memory};
+
+use std::alloc::{AllocError, AllocFailed};
 
 /// A rule that a program can break, in the order in which broken rules are looked for.
 /// `docs/language.md` states each of them.
@@ -36,6 +40,18 @@ pub struct Span {
     pub to: u32,
 }
 
+impl Span {
+    /// The end of a source of so many bytes.
+    pub fn at_end(length: u32) -> Span
+        ensures { result ≡ end_of length }
+    {
+        Span {
+            from: length,
+            to: length,
+        }
+    }
+}
+
 /// Why a program was refused.
 #[derive(Clone, Copy, Debug, PartialEq, Eq)]
 pub enum Refusal {
@@ -46,25 +62,25 @@ pub enum Refusal {
 }
 
 impl From<crate::lists::Memory> for Refusal {
-    fn from(_memory: crate::lists::Memory) -> Self
-        ensures { result ≡ Refusal.Memory }
-    {
+    ghost from_gives = { λ _ r. r ≡ Memory };
+
+    fn from(_memory: crate::lists::Memory) -> Self {
         Refusal::Memory
     }
 }
 
-impl From<std::alloc::AllocError> for Refusal {
-    fn from(_error: std::alloc::AllocError) -> Self
-        ensures { result ≡ Refusal.Memory }
-    {
+impl From<AllocError> for Refusal {
+    ghost from_gives = { λ _ r. r ≡ Memory };
+
+    fn from(_error: AllocError) -> Self {
         Refusal::Memory
     }
 }
 
-impl<T: Drop> From<std::alloc::AllocFailed<T>> for Refusal {
-    fn from(_failed: std::alloc::AllocFailed<T>) -> Self
-        ensures { result ≡ Refusal.Memory }
-    {
+impl<T: Drop> From<AllocFailed<T>> for Refusal {
+    ghost from_gives = { λ _ r. r ≡ Memory };
+
+    fn from(_failed: AllocFailed<T>) -> Self {
         Refusal::Memory
     }
 }

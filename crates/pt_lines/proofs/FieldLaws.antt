@@ -4,7 +4,8 @@ use Rattle.std.specs.List.{AllByRecursion}
 use Rattle.std.specs.Fmt.{decimal}
 use Rattle.std.proofs.lemmas.Bool.{ltb-false, le-ltb}
 use Rattle.pt_lines.specs.Spelling.{each, number_text, blank_number, list_text, numbers_text, count_text, lines_text}
-use Rattle.pt_lines.specs.Reading.{◌>>=◌, Reader, past_at, past_all_at, is_digit, number_at, number_then_at, blank_number_at, many_at, list_at, numbers_at, count_at, lines_at}
+use Rattle.pt_base.specs.Bytes.{is_digit}
+use Rattle.pt_lines.specs.Reading.{◌>>=◌, Reader, past_at, past_all_at, number_at, number_then_at, blank_number_at, many_at, list_at, numbers_at, count_at, lines_at}
 use Rattle.pt_lines.proofs.Laws.{Reads, Anything, bind_some, some_is, test_none, past_found, past_again, past_all_found, past_all_again, many_found, many_again}
 use Rattle.pt_lines.proofs.NumberLaws.{NoDigit, number_found, number_again}
 pub use Rattle.pt_lines.specs.Reads.{Below, AreNumbers}

@@ -4,6 +4,7 @@ use Rattle.std.specs.List.{AllByRecursion}
 use Rattle.std.proofs.lemmas.Bool.{eqb-true, eq-eqb}
 use Rattle.pt_lines.specs.Spelling.{each}
 use Rattle.pt_lines.specs.Reading.{◌>>=◌, Reader, past_at, past_all_at, many_at}
+use Rattle.pt_lines.specs.Reads.{AreMany}
 pub use Rattle.pt_lines.specs.Reads.{Reads, Anything}
 
 -- the value of a step that gave one
@@ -81,6 +82,13 @@ many_again {A} read spell IsIn Stops reads begins [] rest all s = refl
 many_again {A} read spell IsIn Stops reads begins (x ∷ xs) rest all s =
     let e = append_assoc (spell x) (each spell xs) rest in
     ap (many_at read (suc (length xs))) e ∙ rw (reads.again x (each spell xs ++ rest) all.0 (stops_each spell Stops begins xs rest s), many_again read spell IsIn Stops reads begins xs rest all.1 s) refl
+
+pub many_read : {A : Type 0} (read : Reader A) (spell : A → List ℕ) (IsIn : A → Type 0) → Reads read spell IsIn Anything → (n : ℕ) → Reads (many_at read n) (each spell) (AreMany n IsIn) Anything
+many_read read spell IsIn reads n =
+    record {
+      found = λ bytes xs rest e. let f = many_found read spell IsIn Anything reads n bytes xs rest e in ((f.0, f.1), f.2);
+      again = λ xs rest are stop. subst (λ k. many_at read k (each spell xs ++ rest) ≡ Some (xs, rest)) are.0 (many_again read spell IsIn Anything reads (λ x r. tt) xs rest are.1 tt);
+    }
 
 -- so many values are read
 pub many_length : {A : Type 0} (read : Reader A) (n : ℕ) (bytes : List ℕ) (xs : List A) (rest : List ℕ) → many_at read n bytes ≡ Some (xs, rest) → length xs ≡ n

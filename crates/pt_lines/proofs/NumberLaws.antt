@@ -3,7 +3,8 @@ use Rattle.std.proofs.Common.{◌≡◌, ℕ, zero, suc, ◌+◌, ◌-◌, ◌*�
 use Rattle.std.specs.Fmt.{decimal}
 use Rattle.std.proofs.lemmas.Fmt.{decimal_digit, decimal_step, decimal_by_steps}
 use Rattle.std.proofs.lemmas.Bool.{eqb-true, eqb-false, ne_eqb, ltb-true, lt-ltb, le-leb, leb-true, and_parts, and_from}
-use Rattle.pt_lines.specs.Reading.{is_digit, digits_at, number_at}
+use Rattle.pt_base.specs.Bytes.{is_digit}
+use Rattle.pt_lines.specs.Reading.{digits_at, number_at}
 use Rattle.pt_lines.proofs.Laws.{some_is, test_some, chosen}
 pub use Rattle.pt_lines.specs.Reads.{NoDigit}
 

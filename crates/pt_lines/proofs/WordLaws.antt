@@ -3,7 +3,8 @@ use Rattle.std.proofs.Common.{◌≡◌, ℕ, suc, ◌+◌, ◌-◌, ◌*◌, �
 use Rattle.std.specs.Fmt.{decimal, signed_decimal, digit_glyph}
 use Rattle.std.proofs.lemmas.Bool.{eqb-false, ne_eqb, ltb-true, lt-ltb, ltb-false, le-ltb, le-leb, leb-true, lt-leb, and_parts, and_from, and_right}
 use Rattle.pt_lines.specs.Spelling.{four_digits, word_text, signed_text}
-use Rattle.pt_lines.specs.Reading.{◌>>=◌, past_at, is_digit, number_at, digit_at, four_digits_at, word_line_at, negative_of, signed_of, signed_at, signed_line_at}
+use Rattle.pt_base.specs.Bytes.{is_digit}
+use Rattle.pt_lines.specs.Reading.{◌>>=◌, past_at, number_at, digit_at, four_digits_at, word_line_at, negative_of, signed_of, signed_at, signed_line_at}
 use Rattle.pt_lines.proofs.Laws.{Reads, Anything, bind_some, some_is, test_some, test_none, chosen, past_found}
 use Rattle.pt_lines.proofs.NumberLaws.{leads, digit_within, digit_is, number_found, number_again}
 pub use Rattle.pt_lines.specs.Reads.{IsWord}

@@ -1,5 +1,6 @@
 -- What is read at the front of a text, and what follows it.
 use Rattle.std.specs.Prelude.{◌≡◌, Result, Ok, Err, ℕ, zero, suc, ◌+◌, ◌-◌, ◌*◌, ◌^◌, ℤ, pos, negsuc, Bool, ◌&&◌, nat_lt, nat_le, ◌==◌, List, [], ◌∷◌, Option, Some, None, if◌then◌else◌}
+use Rattle.pt_base.specs.Bytes.{is_digit}
 use Rattle.pt_lines.specs.declared.fault.Unread.{Unread}
 use Rattle.pt_lines.specs.declared.fault.Unread.TheVariants.{Form, Memory}
 
@@ -31,9 +32,6 @@ past_at c (b ∷ bs) = if b == c then Some bs else None
 abbrev pub past_all_at : List ℕ → List ℕ → Option (List ℕ)
 past_all_at [] bytes = Some bytes
 past_all_at (c ∷ cs) bytes = past_at c bytes >>= λ rest. past_all_at cs rest
-
-abbrev pub is_digit : ℕ → Bool
-is_digit b = nat_le 48 b && nat_le b 57
 
 -- the digits at the front, behind those of the number so far, where the number stays below the limit
 abbrev pub digits_at : ℕ → ℕ → Reader ℕ

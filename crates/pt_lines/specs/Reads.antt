@@ -1,7 +1,8 @@
 -- What it means that a reader reads what a spelling spells: docs/files.md, "Lines and numbers".
 use Rattle.std.specs.Prelude.{◌≡◌, ℕ, ◌<◌, ◌^◌, false, List, [], ◌∷◌, ◌++◌, length, Some}
 use Rattle.std.specs.List.{AllByRecursion}
-use Rattle.pt_lines.specs.Reading.{Reader, is_digit}
+use Rattle.pt_base.specs.Bytes.{is_digit}
+use Rattle.pt_lines.specs.Reading.{Reader}
 
 -- A value is read only where its spelling stands at the front, within its range. A value within its range that is spelled
 -- at the front is read, where what follows it stops it.
@@ -28,3 +29,7 @@ IsWord n = n < 2 ^ 32
 -- fewer than so many numbers below the limit
 abbrev pub AreNumbers : ℕ → ℕ → List ℕ → Type 0
 AreNumbers most limit ns = (length ns < most) × AllByRecursion (Below limit) ns
+
+-- so many values, each within its range
+abbrev pub AreMany : {A : Type 0} → ℕ → (A → Type 0) → List A → Type 0
+AreMany count IsIn xs = (length xs ≡ count) × AllByRecursion IsIn xs

@@ -2,9 +2,10 @@ ghost use Rattle.std.specs.Prelude.{◌≡◌, ◌≤◌, ◌<◌, ◌^◌, ℕ,
 ghost use Rattle.std.specs.Fmt.{decimal};
 ghost use Rattle.std.specs.Int.{w32};
 ghost use Rattle.std.specs.Int.RustNames.{FitsSigned};
-ghost use Rattle.pt_lines.specs.Spelling.{number_text, list_text, numbers_text, word_text, signed_text, count_text};
-ghost use Rattle.pt_lines.specs.Reading.{is_digit, number_at, number_then_at, list_at, numbers_at, word_line_at, signed_line_at, count_at};
-ghost use Rattle.pt_lines.specs.Reads.{Reads, Anything, NoDigit, Below, IsWord, AreNumbers};
+ghost use Rattle.pt_base.specs.Bytes.{is_digit};
+ghost use Rattle.pt_lines.specs.Spelling.{each, number_text, list_text, numbers_text, word_text, signed_text, count_text};
+ghost use Rattle.pt_lines.specs.Reading.{number_at, number_then_at, many_at, list_at, numbers_at, word_line_at, signed_line_at, count_at};
+ghost use Rattle.pt_lines.specs.Reads.{Reads, Anything, NoDigit, Below, IsWord, AreNumbers, AreMany};
 
 /// A number is read exactly where it is spelled: alone, where no digit follows it, or with a byte that ends it.
 pub fn numbers_are_exact()
@@ -23,4 +24,11 @@ pub fn lists_are_exact()
 pub fn words_are_exact()
     ensures hexadecimal { Reads word_line_at word_text IsWord Anything }
     ensures signed { Reads signed_line_at signed_text (FitsSigned w32) Anything }
+{}
+
+/// So many lines, each with a number, a word or a signed number, are read exactly where they are spelled.
+pub fn lines_are_exact()
+    ensures numbers { (count limit : ℕ) → limit ≤ 2 ^ 64 → Reads (many_at (number_then_at 10 limit) count) (each (number_text 10)) (AreMany count (Below limit)) Anything }
+    ensures words { (count : ℕ) → Reads (many_at word_line_at count) (each word_text) (AreMany count IsWord) Anything }
+    ensures signed { (count : ℕ) → Reads (many_at signed_line_at count) (each signed_text) (AreMany count (FitsSigned w32)) Anything }
 {}

@@ -1,7 +1,7 @@
 //! Lines and numbers of files that have one spelling: readers of what stands at the front of a text, and writers.
 //!
-//! Its contract: each reader gives the value and what follows it exactly where the text begins with the value's spelling,
-//! and each writer puts the value's spelling at the end.
+//! Its contract: each reader gives what reading gives by its definition, and each writer puts the value's spelling at the
+//! end. The laws of `exact` tie the two: a value is read exactly where its spelling stands at the front.
 #![tactic(auto)]
 
 mod exact;
@@ -12,7 +12,7 @@ mod words;
 mod write;
 mod write_lists;
 
-pub use exact::{lists_are_exact, numbers_are_exact, words_are_exact};
+pub use exact::{lines_are_exact, lists_are_exact, numbers_are_exact, words_are_exact};
 pub use fault::Unread;
 pub use lists::{list, number_lines, numbers, signed_lines, word_lines};
 pub use read::{count_line, number, number_then, past, past_all};

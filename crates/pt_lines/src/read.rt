@@ -1,5 +1,7 @@
 ghost use Rattle.std.specs.Prelude.{◌≡◌, ◌≤◌, ◌<◌, ◌^◌, ◌+◌, Option, option_map, IfSome};
-ghost use Rattle.pt_lines.specs.Reading.{past_at, past_all_at, digits_at, number_at, number_then_at, blank_number_at, count_at, is_digit as digit_test};
+ghost use Rattle.pt_lines.specs.Reading.{past_at, past_all_at, digits_at, number_at, number_then_at, blank_number_at, count_at};
+
+use pt_base::is_digit;
 
 /// What follows one byte.
 pub fn past(bytes: &[u8], byte: u8) -> Option<&[u8]>
@@ -20,13 +22,6 @@ pub fn past_all<'a>(bytes: &'a [u8], front: &[u8]) -> Option<&'a [u8]>
         rest = past(rest, *byte)?;
     }
     Some(rest)
-}
-
-/// Whether a byte is a decimal digit.
-pub fn is_digit(byte: u8) -> bool
-    ensures { result ≡ digit_test byte }
-{
-    byte >= 48 && byte <= 57
 }
 
 // The digits at the front.

@@ -1,7 +1,8 @@
 ghost use Rattle.std.specs.Prelude.{◌≡◌, ◌≤◌, ◌<◌, ◌^◌, ◌+◌, Option, option_map, IfSome};
 ghost use Rattle.pt_lines.specs.Reading.{digit_at, four_digits_at, word_line_at, signed_at, signed_line_at};
 
-use crate::read::{is_digit, number, past};
+use crate::read::{number, past};
+use pt_base::is_digit;
 
 // The value of the lower-case hexadecimal digit at the front.
 fn digit(bytes: &[u8]) -> Option<(u32, &[u8])>

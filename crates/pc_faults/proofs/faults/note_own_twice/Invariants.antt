@@ -1,5 +1,5 @@
 use Rattle.std.proofs.Common.{◌≡◌, drop}
-use Rattle.pc_first.specs.First.{first_of}
+use Rattle.pt_base.specs.First.{first_of}
 use Rattle.pc_faults.specs.Faults.{own_faults}
 use Rattle.pc_faults.proofs.faults.note_own_twice.Given as goal
 

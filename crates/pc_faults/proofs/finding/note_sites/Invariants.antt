@@ -1,5 +1,5 @@
 use Rattle.std.proofs.Common.{◌≡◌, drop}
-use Rattle.pc_first.specs.First.{first_of}
+use Rattle.pt_base.specs.First.{first_of}
 use Rattle.pc_faults.specs.Faults.{sites_faults}
 use Rattle.pc_faults.proofs.finding.note_sites.Given as goal
 

@@ -2,7 +2,7 @@ use Rattle.std.proofs.Common.{◌≡◌, ◌+◌, length, drop, refl, sym, ap, s
 use Rattle.pc_lex.specs.declared.fronts.Front.TheVariants.{Blank, Piece, Fault}
 use Rattle.pc_lex.specs.Lexing.{whole, Lexes, InOrder, AreSlices}
 use Rattle.pc_lex.proofs.Cuts.{CutSoFar, front_is, cut_blank, cut_piece, cut_fault, cut_ends, known}
-use Rattle.pc_lex.proofs.lexer.lex.Goals.{in-Blank, in-Piece+in-Ok}
+use Rattle.pc_lex.proofs.lexer.lex.Goals.{in-Blank, in-Piece+in_ok-push-in-Piece}
 use Rattle.pc_lex.proofs.lexer.lex.Goals as goal
 
 pub returns-in-Fault-clause-refused : goal.returns-in-Fault-clause-refused
@@ -20,9 +20,9 @@ cutting-preserved c =
       | in-Blank w ↦ subst (λ x. CutSoFar text x (c.cutting.at + n) (drop n rest)) (sym (ap (λ v. v.items) w.tokens-is))
           (cut_blank text c.cutting.tokens.items c.cutting.at n (c.cutting.at + n) rest c.cutting.invariant c.cutting-test.true c.look-front.ensures.within
           (front_is rest c.look-front.result Blank c.look-front.ensures.value w.in-Blank.is) refl)
-      | in-Piece+in-Ok w ↦
+      | in-Piece+in_ok-push-in-Piece w ↦
           cut_piece text c.cutting.tokens.items c.match-front.tokens.items c.cutting.at n (c.cutting.at + n) rest w.in-Piece.sort c.cutting.invariant c.cutting-test.true c.look-front.ensures.within
-          (front_is rest c.look-front.result (Piece w.in-Piece.sort) c.look-front.ensures.value w.in-Piece.is) refl (ap (λ v. v.items) w.tokens-is ∙ w.in-Ok.ensures.items)
+          (front_is rest c.look-front.result (Piece w.in-Piece.sort) c.look-front.ensures.value w.in-Piece.is) refl (ap (λ v. v.items) w.tokens-is ∙ w.in_ok-push-in-Piece.ensures.items)
     ] in
     subst (λ x. CutSoFar text c.match-front.tokens.items (c.cutting.at + n) x) (sym c.skip-rest.ensures) goes
 

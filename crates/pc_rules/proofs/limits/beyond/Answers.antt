@@ -3,7 +3,7 @@ use Rattle.std.proofs.lemmas.List.Sums.{fold-append}
 use Rattle.pc_typed.specs.declared.typed.Function.{Function}
 use Rattle.pc_typed.specs.Typing.{Typing}
 use Rattle.pc_rules.specs.Marks.{heights}
-use Rattle.pc_first.specs.First.{Fault, sooner, first_of}
+use Rattle.pt_base.specs.First.{Fault, sooner, first_of}
 use Rattle.pc_rules.specs.Faults.{tall_faults, whole_faults}
 use Rattle.pc_rules.proofs.HeightSteps.{tall-bounded}
 use Rattle.pc_rules.proofs.limits.beyond.Goals as goal

@@ -1,5 +1,5 @@
 use Rattle.std.proofs.Common.{ap, sym, ◌∙◌, add-one}
-use Rattle.pc_first.specs.First.{first_of}
+use Rattle.pt_base.specs.First.{first_of}
 use Rattle.pc_rules.proofs.HeightSteps.{one_less, no_functions}
 use Rattle.pc_rules.proofs.limits.tall.Goals as goal
 

@@ -1,5 +1,5 @@
 use Rattle.std.proofs.Common.{◌≡◌, drop}
-use Rattle.pc_first.specs.First.{first_of}
+use Rattle.pt_base.specs.First.{first_of}
 use Rattle.pc_rules.specs.Faults.{tall_faults}
 use Rattle.pc_rules.proofs.limits.tall.Given as goal
 

@@ -1,8 +1,7 @@
 ghost use Rattle.std.specs.Prelude.{◌≡◌, None};
-ghost use Rattle.pc_typed.specs.Breaking.{number_of};
-ghost use Rattle.pc_first.specs.First.{Fault, comes_before, sooner, fault_if, first_of};
+ghost use Rattle.pt_base.specs.First.{number_of, Fault, comes_before, sooner, fault_if, first_of};
 
-use pt_base::{Rule, Span};
+use crate::rules::{Rule, Span};
 use std::marker::Model;
 
 /// The first of the faults that were noted: by the start of the span, then by the rule's number.
@@ -13,7 +12,7 @@ pub struct First {
 
 impl Model for First {
     ghost use Rattle.std.specs.Prelude.{Option};
-    ghost use Rattle.pc_first.specs.First.{Fault};
+    ghost use Rattle.pt_base.specs.First.{Fault};
 
     ghost Value = { Option Fault };
 

@@ -3,9 +3,8 @@ use Rattle.std.proofs.Common.{◌≡◌, ℕ, ◌<◌, ◌≤◌, Bool, true, fa
 use Rattle.std.specs.Prelude.{Contains, nat_lt, nat_eq}
 use Rattle.pt_base.specs.declared.rules.Rule.{Rule}
 use Rattle.pt_base.specs.declared.rules.Span.{Span}
-use Rattle.pc_typed.specs.Breaking.{number_of, ComesFirst, earlier, here, IsFirst}
-use Rattle.pc_first.specs.First.{Fault, comes_before, sooner_of, sooner, first_of, fault_if}
-use Rattle.pc_first.proofs.Elements.{in_head, in_tail, in_cases, in_none}
+use Rattle.pt_base.specs.First.{number_of, ComesFirst, earlier, here, IsFirst, Fault, comes_before, sooner_of, sooner, first_of, fault_if}
+use Rattle.pt_base.proofs.Elements.{in_head, in_tail, in_cases, in_none}
 
 -- ---- a fault or none
 

@@ -17,6 +17,8 @@ pub fn source_of(alloc: Global, text: &Text) -> Result<Program, Refusal>
             span: Span::at_end(MOST_SOURCE_BYTES),
         });
     }
-    let tokens = lex(alloc, text)?;
-    parse(alloc, text, &tokens)
+    match lex(alloc, text) {
+        Ok(tokens) => parse(alloc, text, &tokens),
+        Err(refusal) => Err(refusal),
+    }
 }

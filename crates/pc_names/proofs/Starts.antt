@@ -11,7 +11,7 @@ use Rattle.pc_ast.specs.declared.programs.Item.TheVariants.{Scalar, Array, Funct
 use Rattle.pc_typed.specs.Places.{word_of, same_text, has_name}
 use Rattle.pc_typed.specs.Typing.{item_cells, cells_of, until, functions_in, own_number, cell_number, function_number}
 use Rattle.pc_names.specs.Known.{starts, cells_in, functions_of, IsKnown}
-use Rattle.pc_sites.proofs.Lists.{position-cons}
+use Rattle.pc_typed.proofs.Lists.{position-cons}
 
 -- ---- places
 

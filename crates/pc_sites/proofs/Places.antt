@@ -4,7 +4,7 @@ use Rattle.std.specs.Prelude.{position, is_some}
 use Rattle.std.specs.Str.{bytes_eq}
 use Rattle.std.specs.Cmp.Lexicographic.{bytes_decides, nat_list_eq_equiv}
 use Rattle.pc_ast.specs.declared.expressions.Word.{Word}
-use Rattle.pc_sites.proofs.Lists.{pushed, position-push}
+use Rattle.pc_typed.proofs.Lists.{pushed, position-push}
 
 -- the map has the place of the first of each text
 abbrev pub Finds : (List ℕ → Option ℕ) → List Word → Type 0

@@ -23,14 +23,14 @@ found_item p e = ap (λ b. if b then Own else found_among (find (has_name p.word
 abbrev with_found : Place → Found → Seen
 with_found p f = record { role = p.role; word = p.word; found = f }
 
-module _ (before : List Item) (own : List Word) (u : Use) (role : Role) (word : Word) where
+module _ (before : List Item) (own : List Word) (u : Use Word) (role : Role) (word : Word) where
   pub seen_own : role ≡ u.role → word ≡ u.word → is_among u.word own ≡ true → seen_of role word true None ≡ seen (place_of before own u)
   seen_own r w e = ap (λ x. seen_of x word true None) r ∙ ap (λ x. seen_of u.role x true None) w ∙ ap (with_found (place_of before own u)) (sym (found_own (place_of before own u) e))
 
   pub seen_item : (item : Option Item) → role ≡ u.role → word ≡ u.word → is_among u.word own ≡ false → item ≡ find (has_name u.word) before → seen_of role word false item ≡ seen (place_of before own u)
   seen_item item r w e i = ap (λ x. seen_of x word false item) r ∙ ap (λ x. seen_of u.role x false item) w ∙ ap (λ x. seen_of u.role u.word false x) i ∙ ap (with_found (place_of before own u)) (sym (found_item (place_of before own u) e))
 
-map-seen : (before : List Item) (own : List Word) (uses : List Use) → map seen (map (place_of before own) uses) ≡ sites_of_uses before own uses
+map-seen : (before : List Item) (own : List Word) (uses : List (Use Word)) → map seen (map (place_of before own) uses) ≡ sites_of_uses before own uses
 map-seen before own [] = refl
 map-seen before own (u ∷ uses) = ap (λ rest. seen (place_of before own u) ∷ rest) (map-seen before own uses)
 

@@ -5,5 +5,5 @@ use Rattle.pc_ast.specs.declared.expressions.Word.{Word}
 use Rattle.pc_ast.specs.declared.expressions.Expr.{Expr}
 use Rattle.pc_typed.specs.Uses.{Use, expression_uses, operands_uses}
 
-abbrev pub chain_uses : List (BinOp × Expr Word) → List Use
+abbrev pub chain_uses : List (BinOp × Expr Word) → List (Use Word)
 chain_uses rest = operands_uses (map (λ p. (p.0, expression_uses p.1)) rest)

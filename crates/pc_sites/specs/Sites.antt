@@ -24,7 +24,7 @@ found_of false item = found_among item
 abbrev pub seen_of : Role → Word → Bool → Option Item → Seen
 seen_of role word own item = record { role = role; word = word; found = found_of own item }
 
-abbrev pub sites_of_uses : List Item → List Word → List Use → List Seen
+abbrev pub sites_of_uses : List Item → List Word → List (Use Word) → List Seen
 sites_of_uses before own uses = map (λ u. seen (place_of before own u)) uses
 
 abbrev pub sites_of_locals : List Item → List Word → List (Word × Option (Expr Word)) → List Seen

@@ -18,7 +18,7 @@ impl<'a> Model for Mention<'a> {
     ghost use Rattle.pc_typed.specs.Uses.{Use, use_of};
     ghost use Rattle.pc_ast.specs.declared.expressions.Word as word;
 
-    ghost Value = { Use };
+    ghost Value = { Use Word };
 
     ghost view = { λ m. use_of m.role m.word.now };
 }

@@ -1,1 +1,7 @@
+pub mod Lists
 pub mod Finishes
+pub mod Renaming
+pub mod Cuts
+pub mod Standing
+pub mod Meaning
+pub mod Scalars

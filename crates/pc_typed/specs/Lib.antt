@@ -4,3 +4,4 @@ pub mod Breaking
 pub mod Typing
 pub mod Keeping
 pub mod Finishing
+pub mod Meant

@@ -35,7 +35,7 @@ pub record Place : Type 0 where
   pub before : List Item
   pub own : List Word
 
-abbrev pub place_of : List Item → List Word → Use → Place
+abbrev pub place_of : List Item → List Word → Use Word → Place
 place_of before own u = record { role = u.role; word = u.word; before = before; own = own }
 
 abbrev pub names_of : List (Word × Option (Expr Word)) → List Word

@@ -1,6 +1,7 @@
 ghost use Rattle.std.specs.Prelude.{◌≡◌, IfOk};
 ghost use Rattle.pc_typed.specs.Keeping.{IsTyped};
 ghost use Rattle.pc_typed.specs.Finishing.{finishes, finishing};
+ghost use Rattle.pc_typed.specs.Meant.{NamesMeanWell};
 
 use crate::finishing::{may, of_each};
 use pc_ast::{CellKind, Expr, Stmt, Word};
@@ -112,6 +113,12 @@ impl Typed {
         self.length
     }
 }
+
+/// Each number of a program names what is asked of it: an expression items and its own function's cells, each of the right
+/// kind, a call an earlier routine with as many parameters, a `PAR` earlier threads, each at most once.
+pub fn names_mean_well()
+    ensures { NamesMeanWell }
+{}
 
 /// Whether a statement of the program may finish.
 pub fn may_finish(typed: &Typed, statement: &Stmt<u32>) -> bool

@@ -1,5 +1,5 @@
 use Rattle.std.proofs.Common.{◌≡◌, ◌+◌, ◌∷◌, drop}
-use Rattle.pc_sites.proofs.Lists.{next_at}
+use Rattle.pc_typed.proofs.Lists.{next_at}
 use Rattle.pc_sites.proofs.Seeing.{locals_kept, names_kept}
 use Rattle.pc_sites.proofs.sites.add_locals.Goals as goal
 

@@ -2,7 +2,7 @@ use Rattle.std.proofs.Common.{ap, ◌∙◌}
 use Rattle.std.specs.Prelude.{position, slice_get}
 use Rattle.std.specs.Option.{option_and_then}
 use Rattle.pc_typed.specs.Places.{word_of, same_text}
-use Rattle.pc_sites.proofs.Lists.{find-position, got}
+use Rattle.pc_typed.proofs.Lists.{find-position, got}
 use Rattle.pc_sites.proofs.sites.item_named.Goals as goal
 
 pub returns-in-Some : goal.returns-in-Some

@@ -16,7 +16,7 @@ pub struct Mention<'a> {
 
 impl<'a> Model for Mention<'a> {
     ghost use Rattle.pc_typed.specs.Uses.{Use, use_of};
-    ghost use Rattle.pc_ast.specs.declared.expressions.Word as word;
+    ghost use Rattle.pc_ast.specs.declared.expressions.Word.{Word};
 
     ghost Value = { Use Word };
 

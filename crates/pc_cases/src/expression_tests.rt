@@ -1,14 +1,14 @@
-use pc_exprs::whole_expression;
+use pc_parse::whole_expression;
 use pc_lex::lex;
 use pc_print::put_expression;
-use pt_base::{Memory, Text};
+use pt_base::{MOST_SOURCE_BYTES, Memory, Text};
 use std::alloc::{AllocError, Global};
 use std::test::Fail;
 
 /// The canonical text of the expression that a text spells, or none where it spells none.
 fn printed(alloc: Global, bytes: &[u8]) -> Result<Option<Vec<u8>>, Memory> {
     let text = Text::of(alloc, bytes)?;
-    if 1_048_576 < bytes.len() {
+    if bytes.len() > MOST_SOURCE_BYTES as usize {
         return Ok(None);
     }
     let Ok(tokens) = lex(alloc, &text) else {

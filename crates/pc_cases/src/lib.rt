@@ -1,4 +1,5 @@
-//! Tests of the front over whole sources, row by row: trees, places of refusal, canonical texts, small programs.
+//! Tests of the front over whole sources, row by row: trees, places of refusal, numbers of names, canonical texts, small
+//! programs.
 //!
 //! `printed` and `small_program` keep the tree to themselves, for the tests here and above. They promise nothing, so that
 //! a test knows no more of a source than what it compares.
@@ -7,7 +8,11 @@
 #[cfg(test)]
 mod expression_tests;
 #[cfg(test)]
+mod name_tests;
+#[cfg(test)]
 mod parse_tests;
+#[cfg(test)]
+mod place_tests;
 #[cfg(test)]
 mod print_tests;
 #[cfg(test)]

@@ -1,7 +1,7 @@
 use crate::shown;
 use pc_lex::{Tokens, lex};
 use pc_source::source_of;
-use pt_base::{Memory, Refusal, Rule, Text};
+use pt_base::{MOST_SOURCE_BYTES, Memory, Refusal, Rule, Text};
 use std::alloc::Global;
 use std::test::Fail;
 
@@ -28,25 +28,26 @@ fn first_other_tree<'a>(alloc: Global, rows: &'a str) -> Result<&'a str, Refusal
     Ok("")
 }
 
-const TREES: &str = "ReactiveInput int a = 0; ReactiveOutput int o = -1; => >a0<o-n
-int x; int y = 4294967295; int z = - 4294967295; int v[4]; => .x0.y-n.znv[4]
+const TREES: &str = "ReactiveInput int a = 0; ReactiveOutput int o = -1; => >a0<o-1
+int x; int y = 4294967295; int z = - 4294967295; int v[15000]; => .x0.y-1.z1v[15000]
+int a = - 0; int b = 2147483648; int c = 2147483647; => .a0.b-2147483648.c2147483647
 void f() {} void g(void) {} void h(int a, int b) {} => void f{}void g{}void h a b{}
-int f(int a) { int b; int c = a + 1; ; return b; } => int f a{b|c=(a?1)|;return b}
+int f(int a) { int b; int c = a + 1; ; return b; } => int f a{b|c=(a+1)|;return b}
 void f() { x = 1; v[i] = x; } => void f{x=1;v[i]=x;}
-void f() { x = g(); v[0] = g(1, a+b); g(); g(x); } => void f{x=g();v[0]=g(1,(a?b),);g();g(x,);}
-void f() { { } {;} EOT; PAR(g, h); PAR(g); } => void f{{}{;}EOT;PAR g h;PAR g;}
-void f() { abort EOT; when pre (a); weak abort { } when pre (!a); } => void f{abort<EOT;>a;weak abort<{}>-a;}
-void f() { while (1) #3 ; while (a) { } } => void f{while 1#3<;>while a<{}>}
+void f() { x = g(); v[0] = g(1, a+b); g(); g(x); } => void f{x=g();v[0]=g(1,(a+b),);g();g(x,);}
+void f() { { } {;} EOT; PAR(g, h); PAR(g); } => void f{{}{;}EOT@19-22;PAR@24-27 g h;PAR@35-38 g;}
+void f() { abort EOT; when pre (a); weak abort { } when pre (!a); } => void f{abort@11-16<EOT@17-20;>a;weak abort@36-40<{}>!a;}
+void f() { while (1) #300 ; while (a) { } } => void f{while@11-16 1#300<;>while@28-33 a<{}>}
 void f() { if (a) ; if (b) x = 1; else y = 2; } => void f{if a<;>if b<x=1;>else<y=2;>}
-void f() { if (a) if (b) ; else EOT; } => void f{if a<if b<;>else<EOT;>>}
-void f() { if (a) if (b) ; else ; else EOT; } => void f{if a<if b<;>else<;>>else<EOT;>}
-void f() { if (a) while (b) if (c) ; else EOT; } => void f{if a<while b<if c<;>else<EOT;>>>}
-void f() { if (a) while (b) ; else EOT; } => void f{if a<while b<;>>else<EOT;>}
-void f() { while (a) if (b) ; else EOT; } => void f{while a<if b<;>else<EOT;>>}
-void f() { if (a) { if (b) ; } else EOT; } => void f{if a<{if b<;>}>else<EOT;>}
-void f() { if (a) abort if (b) ; when pre (c); else EOT; } => void f{if a<abort<if b<;>>c;>else<EOT;>}
-void f() { if (a) ; else if (b) ; else EOT; } => void f{if a<;>else<if b<;>else<EOT;>>}
-void f() { x = (g); x = -v[i]; } => void f{x=g;x=-v[i];}";
+void f() { if (a) if (b) ; else EOT; } => void f{if a<if b<;>else<EOT@32-35;>>}
+void f() { if (a) if (b) ; else ; else EOT; } => void f{if a<if b<;>else<;>>else<EOT@39-42;>}
+void f() { if (a) while (b) if (c) ; else EOT; } => void f{if a<while@18-23 b<if c<;>else<EOT@42-45;>>>}
+void f() { if (a) while (b) ; else EOT; } => void f{if a<while@18-23 b<;>>else<EOT@35-38;>}
+void f() { while (a) if (b) ; else EOT; } => void f{while@11-16 a<if b<;>else<EOT@35-38;>>}
+void f() { if (a) { if (b) ; } else EOT; } => void f{if a<{if b<;>}>else<EOT@36-39;>}
+void f() { if (a) abort if (b) ; when pre (c); else EOT; } => void f{if a<abort@18-23<if b<;>>c;>else<EOT@52-55;>}
+void f() { if (a) ; else if (b) ; else EOT; } => void f{if a<;>else<if b<;>else<EOT@39-42;>>}
+void f() { x = (g); x = -v[i]; x = ~!a<<2|b%16; } => void f{x=g;x=-v[i];x=((~!a<<2)|(b%16));}";
 
 #[test]
 fn trees_of_each_rule(rt: HostRuntime) -> Result<(), Fail> {
@@ -135,7 +136,7 @@ fn is_needed(alloc: Global, source: &[u8], from: usize) -> Result<bool, Memory> 
 }
 
 fn tokens_of(alloc: Global, source: &[u8]) -> Result<Tokens, Refusal> {
-    if 1_048_576 < source.len() {
+    if source.len() > MOST_SOURCE_BYTES as usize {
         return Err(Refusal::Memory);
     }
     lex(alloc, &Text::of(alloc, source)?)

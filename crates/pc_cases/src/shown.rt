@@ -1,10 +1,43 @@
 use pc_ast::{CellKind, Expr, Goal, Item, Stmt, Word};
+use pt_base::{BinOp, Span, UnOp};
+use pt_lines::put_number;
 use std::alloc::AllocError;
 
-/// Writes an expression: a chain as `(..)`, an operator between operands as `?`, and the last digit of a number.
+fn spelled(op: BinOp) -> &'static [u8] {
+    match op {
+        BinOp::Or => b"||",
+        BinOp::And => b"&&",
+        BinOp::BitOr => b"|",
+        BinOp::BitXor => b"^",
+        BinOp::BitAnd => b"&",
+        BinOp::Equal => b"==",
+        BinOp::NotEqual => b"!=",
+        BinOp::Less => b"<",
+        BinOp::LessEqual => b"<=",
+        BinOp::Greater => b">",
+        BinOp::GreaterEqual => b">=",
+        BinOp::ShiftLeft => b"<<",
+        BinOp::ShiftRight => b">>",
+        BinOp::Add => b"+",
+        BinOp::Sub => b"-",
+        BinOp::Mul => b"*",
+        BinOp::Div => b"/",
+        BinOp::Rem => b"%",
+    }
+}
+
+/// Writes a span as `@FROM-TO`.
+fn span(out: &mut Vec<u8>, place: Span) -> Result<(), AllocError> {
+    out.push(b'@')?;
+    put_number(out, u64::from(place.from))?;
+    out.push(b'-')?;
+    put_number(out, u64::from(place.to))
+}
+
+/// Writes an expression, with brackets round each chain.
 pub fn expression(out: &mut Vec<u8>, e: &Expr<Word>) -> Result<(), AllocError> {
     match e {
-        Expr::Number(n) => out.push(b'0' + (*n % 10) as u8)?,
+        Expr::Number(n) => put_number(out, u64::from(*n))?,
         Expr::Var(name) => out.extend_from_slice(name.text.bytes())?,
         Expr::Elem(name, index) => {
             out.extend_from_slice(name.text.bytes())?;
@@ -12,15 +45,19 @@ pub fn expression(out: &mut Vec<u8>, e: &Expr<Word>) -> Result<(), AllocError> {
             expression(out, index.get())?;
             out.push(b']')?;
         }
-        Expr::Unary(_, e) => {
-            out.push(b'-')?;
+        Expr::Unary(op, e) => {
+            out.push(match op {
+                UnOp::Neg => b'-',
+                UnOp::Not => b'!',
+                UnOp::Flip => b'~',
+            })?;
             expression(out, e.get())?;
         }
         Expr::Chain(head, rest) => {
             out.push(b'(')?;
             expression(out, head.get())?;
-            for (_, e) in rest.as_slice() {
-                out.push(b'?')?;
+            for (op, e) in rest.as_slice() {
+                out.extend_from_slice(spelled(*op))?;
                 expression(out, e)?;
             }
             out.push(b')')?;
@@ -45,7 +82,7 @@ fn goal(out: &mut Vec<u8>, g: &Goal<Word>) -> Result<(), AllocError> {
     Ok(())
 }
 
-/// Writes a statement, its parts in `<..>`.
+/// Writes a statement, its parts in `<..>`, and the span behind the word that it has.
 pub fn statement(out: &mut Vec<u8>, s: &Stmt<Word>) -> Result<(), AllocError> {
     match s {
         Stmt::Skip => out.push(b';')?,
@@ -88,23 +125,34 @@ pub fn statement(out: &mut Vec<u8>, s: &Stmt<Word>) -> Result<(), AllocError> {
             }
         }
         Stmt::While {
-            span: _,
+            span: place,
             test,
             most,
             body,
         } => {
-            out.extend_from_slice(b"while ")?;
+            out.extend_from_slice(b"while")?;
+            span(out, *place)?;
+            out.push(b' ')?;
             expression(out, test)?;
             if let Some(n) = most {
-                out.extend_from_slice(&[b'#', b'0' + (*n % 10) as u8])?;
+                out.push(b'#')?;
+                put_number(out, u64::from(*n))?;
             }
             out.push(b'<')?;
             statement(out, body.get())?;
             out.push(b'>')?;
         }
-        Stmt::Eot(_) => out.extend_from_slice(b"EOT;")?,
-        Stmt::Par { span: _, threads } => {
+        Stmt::Eot(place) => {
+            out.extend_from_slice(b"EOT")?;
+            span(out, *place)?;
+            out.push(b';')?;
+        }
+        Stmt::Par {
+            span: place,
+            threads,
+        } => {
             out.extend_from_slice(b"PAR")?;
+            span(out, *place)?;
             for name in threads.as_slice() {
                 out.push(b' ')?;
                 out.extend_from_slice(name.text.bytes())?;
@@ -112,7 +160,7 @@ pub fn statement(out: &mut Vec<u8>, s: &Stmt<Word>) -> Result<(), AllocError> {
             out.push(b';')?;
         }
         Stmt::Abort {
-            span: _,
+            span: place,
             weak,
             body,
             test,
@@ -120,7 +168,9 @@ pub fn statement(out: &mut Vec<u8>, s: &Stmt<Word>) -> Result<(), AllocError> {
             if *weak {
                 out.extend_from_slice(b"weak ")?;
             }
-            out.extend_from_slice(b"abort<")?;
+            out.extend_from_slice(b"abort")?;
+            span(out, *place)?;
+            out.push(b'<')?;
             statement(out, body.get())?;
             out.push(b'>')?;
             expression(out, test)?;
@@ -130,7 +180,7 @@ pub fn statement(out: &mut Vec<u8>, s: &Stmt<Word>) -> Result<(), AllocError> {
     Ok(())
 }
 
-/// Writes an item. A start is shown by its sign and whether it is 0.
+/// Writes an item.
 pub fn item(out: &mut Vec<u8>, i: &Item) -> Result<(), AllocError> {
     match i {
         Item::Scalar { kind, name, start } => {
@@ -143,11 +193,13 @@ pub fn item(out: &mut Vec<u8>, i: &Item) -> Result<(), AllocError> {
             if *start < 0 {
                 out.push(b'-')?;
             }
-            out.push(if *start == 0 { b'0' } else { b'n' })?;
+            put_number(out, u64::from(start.unsigned_abs()))?;
         }
         Item::Array { name, size } => {
             out.extend_from_slice(name.text.bytes())?;
-            out.extend_from_slice(&[b'[', b'0' + (*size % 10) as u8, b']'])?;
+            out.push(b'[')?;
+            put_number(out, u64::from(*size))?;
+            out.push(b']')?;
         }
         Item::Function {
             name,

@@ -1,3 +1,5 @@
+pub mod Faults
+pub mod Found
 pub mod Known
 pub mod Chains
 pub mod Resolving

@@ -4,7 +4,7 @@ use Rattle.pt_base.specs.declared.Rule.{Rule}
 use Rattle.pt_base.specs.declared.Span.{Span}
 use Rattle.pt_base.specs.declared.Refusal.{Refusal}
 use Rattle.pt_base.specs.declared.Refusal.TheVariants.{Broken, Memory}
-use Rattle.pc_parse.specs.Trees.{Program}
+use Rattle.pc_grammar.specs.Trees.{Program}
 use Rattle.pt_base.specs.First.{IsFirst}
 use Rattle.pc_typed.specs.Breaking.{Breaks}
 use Rattle.pc_typed.specs.Typing.{Typing, typing_of}

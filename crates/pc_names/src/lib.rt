@@ -2,11 +2,13 @@
 //! (`docs/language.md`, "Names").
 //!
 //! Its contract: `resolve` gives the tree with numbers for names, where none of the rules N1 to N8 is broken, or the first of
-//! them that is, with its place. `pc_faults` looks for that rule; what is left here is the walk that gives each cell and each
-//! function its number.
+//! them that is, with its place. `finding` notes every fault and keeps the first; `trees` and the files beside it give each
+//! cell and each function its number.
 #![tactic(auto)]
 
 mod cells;
+mod faults;
+mod finding;
 mod functions;
 mod known;
 mod resolving;

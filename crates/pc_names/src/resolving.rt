@@ -6,11 +6,11 @@ ghost use Rattle.pt_base.specs.declared.Rule.{Rule};
 ghost use Rattle.pt_base.specs.declared.Span.{Span};
 
 use crate::cells::cells;
+use crate::finding::{first_fault, is_main_item};
 use crate::functions::functions;
 use crate::known::functions_with;
 use pc_ast::Item;
-use pc_faults::{first_fault, is_main_item};
-use pc_parse::Program;
+use pc_grammar::Program;
 use pc_typed::Typed;
 use pt_base::{Memory, Refusal};
 use std::alloc::Global;

@@ -7,22 +7,27 @@ use Rattle.pc_ast.specs.declared.expressions.Expr.{Expr}
 use Rattle.pc_ast.specs.declared.expressions.Expr.TheVariants.{Number}
 use Rattle.pc_ast.specs.declared.programs.Item.{Item}
 use Rattle.pc_ast.specs.declared.programs.Item.TheVariants.{Function}
-use Rattle.pc_exprs.specs.declared.reading.Failure.{Failure}
-use Rattle.pc_exprs.specs.declared.reading.Failure.TheVariants.{Broken, Memory}
-use Rattle.pc_exprs.specs.declared.marks.Pair.TheVariants.{Result}
-use Rattle.pc_exprs.specs.Reading.{first, Comes, Refuses, Always}
-use Rattle.pc_exprs.specs.Grammar.{word_at, SpellsBetween, between, BetweenTakes, BetweenFails}
-use Rattle.pc_exprs.proofs.Behind.{fails_behind, fails_here}
-use Rattle.pc_exprs.proofs.Operands.{some_token}
-use Rattle.pc_exprs.proofs.Pairs.{some_level}
-use Rattle.pc_exprs.proofs.Unique.{between_first, unique_between}
-use Rattle.pc_stmts.specs.Statements.{Closes, at_return, none as no_parts}
-use Rattle.pc_stmts.proofs.Ends.{closes_same}
-use Rattle.pc_stmts.proofs.Unique.{brace_closes}
-use Rattle.pc_items.specs.declared.frames.Frame.{Frame}
-use Rattle.pc_items.specs.Frames.{SpellsFrame, framed, nothing, none, FrameEnds, FrameTakes, FrameFails}
-use Rattle.pc_items.proofs.Framed.{unique_frame, frame_first}
-use Rattle.pc_parse.specs.Items.{SpellsFunction, function, FunctionTakes, FunctionFails, SpellsItem, routine, ItemTakes, ItemFails}
+use Rattle.pc_parse.specs.declared.reading.Failure.{Failure}
+use Rattle.pc_parse.specs.declared.reading.Failure.TheVariants.{Broken, Memory}
+use Rattle.pc_grammar.specs.declared.marks.Pair.TheVariants.{Result}
+use Rattle.pc_grammar.specs.Refusing.{first}
+use Rattle.pc_parse.specs.Reading.{Comes, Refuses, Always}
+use Rattle.pc_grammar.specs.Expressions.{word_at, SpellsBetween, between}
+use Rattle.pc_parse.specs.Expressions.{BetweenTakes, BetweenFails}
+use Rattle.pc_parse.proofs.Behind.{fails_behind, fails_here}
+use Rattle.pc_parse.proofs.Operands.{some_token}
+use Rattle.pc_parse.proofs.Pairs.{some_level}
+use Rattle.pc_parse.proofs.Unique.{between_first, unique_between}
+use Rattle.pc_grammar.specs.Statements.{none as no_parts}
+use Rattle.pc_parse.specs.Statements.{Closes, at_return}
+use Rattle.pc_parse.proofs.Ends.{closes_same}
+use Rattle.pc_parse.proofs.StatementUnique.{brace_closes}
+use Rattle.pc_grammar.specs.declared.frames.Frame.{Frame}
+use Rattle.pc_grammar.specs.Frames.{SpellsFrame, framed, nothing, none}
+use Rattle.pc_parse.specs.Frames.{FrameEnds, FrameTakes, FrameFails}
+use Rattle.pc_parse.proofs.Framed.{unique_frame, frame_first}
+use Rattle.pc_grammar.specs.Items.{SpellsFunction, function, SpellsItem, routine}
+use Rattle.pc_parse.specs.Items.{FunctionTakes, FunctionFails, ItemTakes, ItemFails}
 use Rattle.pc_parse.proofs.Openings.{as_routine}
 
 -- ---- a function with a result

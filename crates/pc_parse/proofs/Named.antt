@@ -1,117 +1,172 @@
--- One lemma for each way on which the parser of what stands behind `int` and a name answers.
-use Rattle.std.proofs.Common.{◌≡◌, ℕ, ℤ, pos, List, [], ◌∷◌, ◌++◌, Option, Some, refl, sym, ap, subst, ◌∙◌, append-nil}
+-- One lemma for each way on which the parser of what stands behind a name answers.
+use Rattle.std.proofs.Common.{◌≡◌, ℕ, List, [], ◌∷◌, ◌++◌, Option, Some, length, refl, sym, ap, subst, ◌∙◌, append_assoc, append-nil}
 use Rattle.pc_lex.specs.declared.tokens.Sort.{Sort}
-use Rattle.pc_lex.specs.declared.tokens.Sort.TheVariants.{Equals, OpenBracket, OpenParenthesis, Semicolon}
+use Rattle.pc_lex.specs.declared.tokens.Sort.TheVariants.{Number as NumberSort, Semicolon, Equals, OpenParenthesis, OpenBracket}
 use Rattle.pc_lex.specs.declared.tokens.Token.{Token}
 use Rattle.pc_ast.specs.declared.expressions.Word.{Word}
-use Rattle.pc_ast.specs.declared.programs.CellKind.TheVariants.{Plain}
-use Rattle.pc_ast.specs.declared.programs.Item.{Item}
-use Rattle.pc_ast.specs.declared.programs.Item.TheVariants.{Scalar, Array}
-use Rattle.pc_exprs.specs.declared.reading.Failure.{Failure}
-use Rattle.pc_exprs.specs.declared.reading.Failure.TheVariants.{Broken, Memory}
-use Rattle.pc_exprs.specs.Reading.{first, Comes, Refuses, Always}
-use Rattle.pc_exprs.proofs.Behind.{fails_behind}
-use Rattle.pc_items.specs.Constants.{SpellsStart, StartTakes, StartFails}
-use Rattle.pc_items.proofs.Starts.{start_first, unique_start}
-use Rattle.pc_parse.specs.Items.{SpellsSize, SpellsFunction, SpellsNamedItem, plain, started, array, giving, SizeTakes, SizeFails, FunctionTakes, FunctionFails, NamedItemTakes, NamedItemFails}
-use Rattle.pc_parse.proofs.Sizes.{size_first, unique_size}
-use Rattle.pc_parse.proofs.Functions.{function_first, unique_function}
+use Rattle.pc_ast.specs.declared.expressions.Expr.{Expr}
+use Rattle.pc_ast.specs.declared.expressions.Expr.TheVariants.{Number}
+use Rattle.pc_ast.specs.declared.expressions.Goal.{Goal}
+use Rattle.pc_ast.specs.declared.expressions.Goal.TheVariants.{Nothing, Var, Elem}
+use Rattle.pc_ast.specs.declared.statements.Stmt.{Stmt}
+use Rattle.pc_ast.specs.declared.statements.Stmt.TheVariants.{Assign, Call}
+use Rattle.pc_parse.specs.declared.reading.Failure.{Failure}
+use Rattle.pc_parse.specs.declared.reading.Failure.TheVariants.{Broken, Memory}
+use Rattle.pc_grammar.specs.declared.marks.Pair.TheVariants.{Brackets}
+use Rattle.pc_grammar.specs.Refusing.{first}
+use Rattle.pc_parse.specs.Reading.{Comes, Refuses, Always}
+use Rattle.pc_grammar.specs.Expressions.{SpellsBetween, between}
+use Rattle.pc_parse.specs.Expressions.{BetweenTakes, BetweenFails}
+use Rattle.pc_parse.proofs.Behind.{fails_behind, fails_here}
+use Rattle.pc_parse.proofs.Operands.{some_token}
+use Rattle.pc_parse.proofs.Pairs.{some_level}
+use Rattle.pc_parse.proofs.Unique.{between_first, unique_between}
+use Rattle.pc_grammar.specs.Lists.{SpellsArguments}
+use Rattle.pc_parse.specs.Lists.{ArgumentsTakes, ArgumentsFails}
+use Rattle.pc_grammar.specs.Settings.{SpellsSetting, value}
+use Rattle.pc_parse.specs.Settings.{SettingTakes, SettingFails}
+use Rattle.pc_grammar.specs.Simple.{SpellsNamed, variable, element, routine}
+use Rattle.pc_parse.specs.Simple.{NamedTakes, NamedFails}
+use Rattle.pc_parse.proofs.Calls.{setting_first, unique_setting}
+use Rattle.pc_parse.proofs.Listed.{arguments_first, unique_arguments}
 
 -- ---- what stands there, by its first token
 
-clash : {A : Type 0} (o : Option Sort) (s z : Sort) → o ≡ Some s → o ≡ Some z → (s ≡ z → ⊥) → A
-clash o s z a b differ = let c : Some s ≡ Some z = sym a ∙ b in absurd (differ (cc))
+element_first : {source : List ℕ} {w : List Token} {e : Expr Word} → SpellsBetween source 64 Brackets w e → (v r : List Token) → first ((w ++ v) ++ r) ≡ Some OpenBracket
+element_first {w = w} d v r = ap first (append_assoc w v r) ∙ between_first d (v ++ r)
 
-pub record ArrayIs (source : List ℕ) (name : Word) (w : List Token) (item : Item) : Type 0 where
-  pub value : ℕ
-  pub inner : SpellsSize w value
-  pub tree : item ≡ Array name value
+routine_first : {source : List ℕ} {w : List Token} {all : List (Expr Word)} → SpellsArguments source w all → (z : Token) (r : List Token) → first ((w ++ z ∷ []) ++ r) ≡ Some OpenParenthesis
+routine_first {w = w} d z r = ap first (append_assoc w (z ∷ []) r) ∙ arguments_first d (z ∷ r)
 
-pub as_array : {source : List ℕ} {name : Word} {w : List Token} {item : Item} → SpellsNamedItem source name w item → (r : List Token) → first (w ++ r) ≡ Some OpenBracket → ArrayIs source name w item
-as_array (plain z is) r at = clash (Some z.sort) Semicolon OpenBracket (ap Some is) at (λ h. cc)
-as_array (started {w = w} d) r at = clash (first (w ++ r)) Equals OpenBracket (start_first d r) at (λ h. cc)
-as_array (array {value = value} d) r at = record { value = value; inner = d; tree = refl }
-as_array (giving {w = w} d) r at = clash (first (w ++ r)) OpenParenthesis OpenBracket (function_first d r) at (λ h. cc)
+pub as_variable : {source : List ℕ} {name : Word} {w : List Token} {s : Stmt Word} → SpellsNamed source name w s → (r : List Token) → (first (w ++ r) ≡ Some OpenParenthesis → ⊥) → (first (w ++ r) ≡ Some OpenBracket → ⊥) → SpellsSetting source (Var name) w s
+as_variable (variable d) r no_call no_index = d
+as_variable (element {v = v} d ds) r no_call no_index = absurd (no_index (element_first d v r))
+as_variable (routine z closes d) r no_call no_index = absurd (no_call (routine_first d z r))
 
-pub as_giving : {source : List ℕ} {name : Word} {w : List Token} {item : Item} → SpellsNamedItem source name w item → (r : List Token) → first (w ++ r) ≡ Some OpenParenthesis → SpellsFunction source name w item
-as_giving (plain z is) r at = clash (Some z.sort) Semicolon OpenParenthesis (ap Some is) at (λ h. cc)
-as_giving (started {w = w} d) r at = clash (first (w ++ r)) Equals OpenParenthesis (start_first d r) at (λ h. cc)
-as_giving (array {w = w} d) r at = clash (first (w ++ r)) OpenBracket OpenParenthesis (size_first d r) at (λ h. cc)
-as_giving (giving d) r at = d
+pub record ElementParts (source : List ℕ) (name : Word) (w : List Token) (s : Stmt Word) : Type 0 where
+  pub front : List Token
+  pub back : List Token
+  pub index : Expr Word
+  pub inner : SpellsBetween source 64 Brackets front index
+  pub set : SpellsSetting source (Elem name index) back s
+  pub whole : w ≡ front ++ back
 
-pub record StartIs (name : Word) (w : List Token) (item : Item) : Type 0 where
-  pub z : ℤ
-  pub inner : SpellsStart w z
-  pub tree : item ≡ Scalar Plain name z
+pub as_element : {source : List ℕ} {name : Word} {w : List Token} {s : Stmt Word} → SpellsNamed source name w s → (r : List Token) → first (w ++ r) ≡ Some OpenBracket → ElementParts source name w s
+as_element (variable d) r at = let a : Some Equals ≡ Some OpenBracket = sym (setting_first d r) ∙ at in cc
+as_element (element {w = w} {v = v} {index = index} d ds) r at = record { front = w; back = v; index = index; inner = d; set = ds; whole = refl }
+as_element (routine z closes d) r at = let a : Some OpenParenthesis ≡ Some OpenBracket = sym (routine_first d z r) ∙ at in cc
 
-pub as_started : {source : List ℕ} {name : Word} {w : List Token} {item : Item} → SpellsNamedItem source name w item → (r : List Token) → (first (w ++ r) ≡ Some Semicolon → ⊥) → (first (w ++ r) ≡ Some OpenBracket → ⊥) → (first (w ++ r) ≡ Some OpenParenthesis → ⊥) → StartIs name w item
-as_started (plain z is) r a b c = absurd (a (ap Some is))
-as_started (started {z = z} d) r a b c = record { z = z; inner = d; tree = refl }
-as_started (array d) r a b c = absurd (b (size_first d r))
-as_started (giving d) r a b c = absurd (c (function_first d r))
+pub record RoutineParts (source : List ℕ) (name : Word) (w : List Token) (s : Stmt Word) : Type 0 where
+  pub front : List Token
+  pub all : List (Expr Word)
+  pub last : Token
+  pub closes : last.sort ≡ Semicolon
+  pub arguments : SpellsArguments source front all
+  pub tree : s ≡ Call Nothing name all
+  pub whole : w ≡ front ++ last ∷ []
 
-pub record PlainIs (name : Word) (w : List Token) (item : Item) : Type 0 where
-  pub z : Token
-  pub whole : w ≡ z ∷ []
-  pub tree : item ≡ Scalar Plain name (pos 0)
+pub as_routine : {source : List ℕ} {name : Word} {w : List Token} {s : Stmt Word} → SpellsNamed source name w s → (r : List Token) → first (w ++ r) ≡ Some OpenParenthesis → RoutineParts source name w s
+as_routine (variable d) r at = let a : Some Equals ≡ Some OpenParenthesis = sym (setting_first d r) ∙ at in cc
+as_routine (element {v = v} d ds) r at = let a : Some OpenBracket ≡ Some OpenParenthesis = sym (element_first d v r) ∙ at in cc
+as_routine (routine {w = w} {all = all} z closes d) r at = record { front = w; all = all; last = z; closes = closes; arguments = d; tree = refl; whole = refl }
 
-pub as_plain : {source : List ℕ} {name : Word} {w : List Token} {item : Item} → SpellsNamedItem source name w item → (r : List Token) → first (w ++ r) ≡ Some Semicolon → PlainIs name w item
-as_plain (plain z is) r at = record { z = z; whole = refl; tree = refl }
-as_plain (started {w = w} d) r at = clash (first (w ++ r)) Equals Semicolon (start_first d r) at (λ h. cc)
-as_plain (array {w = w} d) r at = clash (first (w ++ r)) OpenBracket Semicolon (size_first d r) at (λ h. cc)
-as_plain (giving {w = w} d) r at = clash (first (w ++ r)) OpenParenthesis Semicolon (function_first d r) at (λ h. cc)
+equals_is : (o : Option Sort) (s : Sort) → o ≡ Some Equals → o ≡ Some s → s ≡ Equals
+equals_is o s a b = let c : Some s ≡ Some Equals = sym b ∙ a in cc
 
-pub unique_named_item : {source : List ℕ} {name : Word} {w : List Token} {item : Item} → SpellsNamedItem source name w item → (w' : List Token) (item' : Item) (r r' : List Token) → SpellsNamedItem source name w' item' → w ++ r ≡ w' ++ r' → (r ≡ r') × (item ≡ item')
-unique_named_item (plain z is) w' item' r r' d' eq =
-    let k = as_plain d' r' (ap first (sym eq) ∙ ap Some is) in
-    let both : z ∷ r ≡ k.z ∷ r' = eq ∙ ap (λ x. x ++ r') k.whole in
-    (cc, sym k.tree)
-unique_named_item {name = name} (started {w = w} d) w' item' r r' d' eq =
-    let at : first (w' ++ r') ≡ Some Equals = ap first (sym eq) ∙ start_first d r in
-    let k = as_started d' r' (λ h. clash (first (w' ++ r')) Equals Semicolon at h (λ x. cc)) (λ h. clash (first (w' ++ r')) Equals OpenBracket at h (λ x. cc)) (λ h. clash (first (w' ++ r')) Equals OpenParenthesis at h (λ x. cc)) in
-    let u = unique_start d w' k.z r r' k.inner eq in
-    (u.0, ap (Scalar Plain name) u.1 ∙ sym k.tree)
-unique_named_item {name = name} (array {w = w} d) w' item' r r' d' eq =
-    let k = as_array d' r' (ap first (sym eq) ∙ size_first d r) in
-    let u = unique_size d w' k.value r r' k.inner eq in
-    (u.0, ap (Array name) u.1 ∙ sym k.tree)
-unique_named_item (giving d) w' item' r r' d' eq = unique_function d w' item' r r' (as_giving d' r' (ap first (sym eq) ∙ function_first d r)) eq
+pub unique_named : {source : List ℕ} {name : Word} {w : List Token} {s : Stmt Word} → SpellsNamed source name w s → (w' : List Token) (s' : Stmt Word) (r r' : List Token) → SpellsNamed source name w' s' → w ++ r ≡ w' ++ r' → (r ≡ r') × (s ≡ s')
+unique_named (variable d) w' s' r r' d' eq =
+    let at : first (w' ++ r') ≡ Some Equals = ap first (sym eq) ∙ setting_first d r in
+    let k = as_variable d' r' (λ h. let c : OpenParenthesis ≡ Equals = equals_is (first (w' ++ r')) OpenParenthesis at h in cc) (λ h. let c : OpenBracket ≡ Equals = equals_is (first (w' ++ r')) OpenBracket at h in cc) in
+    unique_setting d w' s' r r' k eq
+unique_named {source = source} {name = name} (element {w = w} {v = v} {index = index} d ds) w' s' r r' d' eq =
+    let k = as_element d' r' (ap first (sym eq) ∙ element_first d v r) in
+    let u = unique_between d k.front k.index (v ++ r) (k.back ++ r') k.inner (sym (append_assoc w v r) ∙ eq ∙ ap (λ x. x ++ r') k.whole ∙ append_assoc k.front k.back r') in
+    unique_setting ds k.back s' r r' (subst (λ x. SpellsSetting source (Elem name x) k.back s') (sym u.1) k.set) u.0
+unique_named {source = source} {name = name} (routine {w = w} z closes d) w' s' r r' d' eq =
+    let k = as_routine d' r' (ap first (sym eq) ∙ routine_first d z r) in
+    let u = unique_arguments d k.front k.all (z ∷ r) (k.last ∷ r') k.arguments (sym (append_assoc w (z ∷ []) r) ∙ eq ∙ ap (λ x. x ++ r') k.whole ∙ append_assoc k.front (k.last ∷ []) r') in
+    let tail : z ∷ r ≡ k.last ∷ r' = u.0 in
+    (cc, ap (Call Nothing name) u.1 ∙ sym k.tree)
 
--- ---- the ways of the parser
+-- ---- a variable
 
-pub takes_plain : (source : List ℕ) (name : Word) (tokens last : List Token) → Comes Semicolon tokens last → NamedItemTakes source name tokens (Scalar Plain name (pos 0)) last
-takes_plain source name tokens last z = record { used = z.token ∷ []; whole = z.whole; spelled = plain z.token z.is; stops = tt }
+pub takes_variable : (source : List ℕ) (name : Word) (tokens : List Token) (s : Stmt Word) (rest : List Token) → SettingTakes source (Var name) tokens s rest → NamedTakes source name tokens s rest
+takes_variable source name tokens s rest h = record { used = h.used; whole = h.whole; spelled = variable h.spelled; stops = tt }
 
-pub takes_array : (source : List ℕ) (name : Word) (tokens : List Token) (value : ℕ) (last : List Token) → SizeTakes tokens value last → NamedItemTakes source name tokens (Array name value) last
-takes_array source name tokens value last h = record { used = h.used; whole = h.whole; spelled = array h.spelled; stops = tt }
+pub variable_refuses : (source : List ℕ) (name : Word) (tokens : List Token) (f : Failure) → (first tokens ≡ Some OpenParenthesis → ⊥) → (first tokens ≡ Some OpenBracket → ⊥) → Refuses (SettingFails source (Var name)) tokens f → Refuses (NamedFails source name) tokens f
+variable_refuses source name tokens (Broken n) no_call no_index f =
+    fails_behind (SpellsSetting source (Var name)) Always (SpellsNamed source name) Always [] tokens tokens n refl f
+    (λ v s d. ([], s, variable (subst (λ x. SpellsSetting source (Var name) x s) (sym (append-nil v)) d)))
+    (λ others s r at _ k. (
+      s,
+      r,
+      record {
+        used = k.used;
+        whole = k.whole;
+        stops = tt;
+        spelled = as_variable k.spelled r (λ h. no_call (sym at ∙ ap first k.whole ∙ h)) (λ h. no_index (sym at ∙ ap first k.whole ∙ h));
+      },
+    ))
+variable_refuses source name tokens Memory no_call no_index f = tt
 
-pub takes_giving : (source : List ℕ) (name : Word) (tokens : List Token) (item : Item) (last : List Token) → FunctionTakes source name tokens item last → NamedItemTakes source name tokens item last
-takes_giving source name tokens item last h = record { used = h.used; whole = h.whole; spelled = giving h.spelled; stops = tt }
+-- ---- an element
 
-pub takes_started : (source : List ℕ) (name : Word) (tokens : List Token) (z : ℤ) (last : List Token) → StartTakes tokens z last → NamedItemTakes source name tokens (Scalar Plain name z) last
-takes_started source name tokens z last h = record { used = h.used; whole = h.whole; spelled = started h.spelled; stops = tt }
+-- `= 0 ;` sets any goal
+some_setting : (source : List ℕ) (goal : Goal Word) → SpellsSetting source goal (some_token Equals ∷ some_token (NumberSort 0) ∷ some_token Semicolon ∷ []) (Assign goal (Number 0))
+some_setting source goal = value (between (some_token Equals) (some_token Semicolon) refl refl (some_level source 64 10))
 
-pub array_refuses : (source : List ℕ) (name : Word) (tokens : List Token) (f : Failure) → first tokens ≡ Some OpenBracket → Refuses SizeFails tokens f → Refuses (NamedItemFails source name) tokens f
-array_refuses source name tokens (Broken n) at f =
-    fails_behind SpellsSize Always (SpellsNamedItem source name) Always [] tokens tokens n refl f
-    (λ v value d. ([], Array name value, subst (λ x. SpellsNamedItem source name x (Array name value)) (sym (append-nil v)) (array d)))
-    (λ others c r same _ k. let v = as_array k.spelled r (ap first (sym k.whole) ∙ same ∙ at) in (v.value, r, record { used = k.used; whole = k.whole; spelled = v.inner; stops = tt }))
-array_refuses source name tokens Memory at f = tt
+pub takes_element : (source : List ℕ) (name : Word) (tokens : List Token) (index : Expr Word) (i : List Token) (s : Stmt Word) (rest : List Token) → BetweenTakes source 64 Brackets tokens index i → SettingTakes source (Elem name index) i s rest → NamedTakes source name tokens s rest
+takes_element source name tokens index i s rest h k = record {
+  used = h.used ++ k.used;
+  whole = h.whole ∙ ap (λ x. h.used ++ x) k.whole ∙ sym (append_assoc h.used k.used rest);
+  spelled = element h.spelled k.spelled;
+  stops = tt;
+}
 
-pub giving_refuses : (source : List ℕ) (name : Word) (tokens : List Token) (f : Failure) → first tokens ≡ Some OpenParenthesis → Refuses (FunctionFails source name) tokens f → Refuses (NamedItemFails source name) tokens f
-giving_refuses source name tokens (Broken n) at f =
-    fails_behind (SpellsFunction source name) Always (SpellsNamedItem source name) Always [] tokens tokens n refl f
-    (λ v item d. ([], item, subst (λ x. SpellsNamedItem source name x item) (sym (append-nil v)) (giving d)))
-    (λ others c r same _ k. (c, r, record { used = k.used; whole = k.whole; spelled = as_giving k.spelled r (ap first (sym k.whole) ∙ same ∙ at); stops = tt }))
-giving_refuses source name tokens Memory at f = tt
+pub index_refuses : (source : List ℕ) (name : Word) (tokens : List Token) (f : Failure) → first tokens ≡ Some OpenBracket → Refuses (BetweenFails source 64 Brackets) tokens f → Refuses (NamedFails source name) tokens f
+index_refuses source name tokens (Broken n) at f =
+    fails_behind (SpellsBetween source 64 Brackets) Always (SpellsNamed source name) Always [] tokens tokens n refl f
+    (λ v index d. (some_token Equals ∷ some_token (NumberSort 0) ∷ some_token Semicolon ∷ [], Assign (Elem name index) (Number 0), element d (some_setting source (Elem name index))))
+    (λ others s r same _ k.
+    let v = as_element k.spelled r (ap first (sym k.whole) ∙ same ∙ at) in
+    (v.index, v.back ++ r, record { used = v.front; whole = k.whole ∙ ap (λ x. x ++ r) v.whole ∙ append_assoc v.front v.back r; spelled = v.inner; stops = tt }))
+index_refuses source name tokens Memory at f = tt
 
-pub started_refuses : (source : List ℕ) (name : Word) (tokens : List Token) (f : Failure) → (first tokens ≡ Some Semicolon → ⊥) → (first tokens ≡ Some OpenBracket → ⊥) → (first tokens ≡ Some OpenParenthesis → ⊥) → Refuses StartFails tokens f → Refuses (NamedItemFails source name) tokens f
-started_refuses source name tokens (Broken n) a b c f =
-    fails_behind SpellsStart Always (SpellsNamedItem source name) Always [] tokens tokens n refl f
-    (λ v z d. ([], Scalar Plain name z, subst (λ x. SpellsNamedItem source name x (Scalar Plain name z)) (sym (append-nil v)) (started d)))
-    (λ others item r same _ k.
-    let v = as_started k.spelled r (λ h. a (sym same ∙ ap first k.whole ∙ h)) (λ h. b (sym same ∙ ap first k.whole ∙ h)) (λ h. c (sym same ∙ ap first k.whole ∙ h)) in
-    (v.z, r, record { used = k.used; whole = k.whole; spelled = v.inner; stops = tt }))
-started_refuses source name tokens Memory a b c f = tt
+pub element_refuses : (source : List ℕ) (name : Word) (tokens : List Token) (index : Expr Word) (i : List Token) (f : Failure) → BetweenTakes source 64 Brackets tokens index i → Refuses (SettingFails source (Elem name index)) i f → Refuses (NamedFails source name) tokens f
+element_refuses source name tokens index i (Broken n) h f =
+    fails_behind (SpellsSetting source (Elem name index)) Always (SpellsNamed source name) Always h.used i tokens n h.whole f
+    (λ v s d. ([], s, subst (λ x. SpellsNamed source name x s) (sym (append-nil (h.used ++ v))) (element h.spelled d)))
+    (λ others s r _ same k.
+    let v = as_element k.spelled r (ap first (sym k.whole) ∙ between_first h.spelled others) in
+    let u = unique_between h.spelled v.front v.index others (v.back ++ r) v.inner (k.whole ∙ ap (λ x. x ++ r) v.whole ∙ append_assoc v.front v.back r) in
+    (s, r, record { used = v.back; whole = u.0; spelled = subst (λ x. SpellsSetting source (Elem name x) v.back s) (sym u.1) v.set; stops = tt }))
+element_refuses source name tokens index i Memory h f = tt
 
-pub ruleset named_steps = (takes_plain, takes_array, takes_giving, takes_started, array_refuses, giving_refuses, started_refuses)
+-- ---- a call
+
+pub takes_routine : (source : List ℕ) (name : Word) (tokens : List Token) (all : List (Expr Word)) (r last : List Token) → ArgumentsTakes source tokens all r → Comes Semicolon r last → NamedTakes source name tokens (Call Nothing name all) last
+takes_routine source name tokens all r last h z = record {
+  used = h.used ++ z.token ∷ [];
+  whole = h.whole ∙ ap (λ x. h.used ++ x) z.whole ∙ sym (append_assoc h.used (z.token ∷ []) last);
+  spelled = routine z.token z.is h.spelled;
+  stops = tt;
+}
+
+pub routine_refuses : (source : List ℕ) (name : Word) (tokens : List Token) (f : Failure) → first tokens ≡ Some OpenParenthesis → Refuses (ArgumentsFails source) tokens f → Refuses (NamedFails source name) tokens f
+routine_refuses source name tokens (Broken n) at f =
+    fails_behind (SpellsArguments source) Always (SpellsNamed source name) Always [] tokens tokens n refl f
+    (λ v all d. (some_token Semicolon ∷ [], Call Nothing name all, routine (some_token Semicolon) refl d))
+    (λ others s r same _ k.
+    let v = as_routine k.spelled r (ap first (sym k.whole) ∙ same ∙ at) in
+    (v.all, v.last ∷ r, record { used = v.front; whole = k.whole ∙ ap (λ x. x ++ r) v.whole ∙ append_assoc v.front (v.last ∷ []) r; spelled = v.arguments; stops = tt }))
+routine_refuses source name tokens Memory at f = tt
+
+pub routine_not_closed : (source : List ℕ) (name : Word) (tokens : List Token) (all : List (Expr Word)) (r : List Token) → ArgumentsTakes source tokens all r → (first r ≡ Some Semicolon → ⊥) → NamedFails source name tokens (length r)
+routine_not_closed source name tokens all r h other =
+    fails_here (SpellsNamed source name) Always h.used r tokens h.whole (some_token Semicolon ∷ [], Call Nothing name all, routine (some_token Semicolon) refl h.spelled)
+    (λ others s end same k.
+    let v = as_routine k.spelled end (ap first (sym k.whole) ∙ arguments_first h.spelled others) in
+    let u = unique_arguments h.spelled v.front v.all others (v.last ∷ end) v.arguments (k.whole ∙ ap (λ x. x ++ end) v.whole ∙ append_assoc v.front (v.last ∷ []) end) in
+    other (sym same ∙ ap first u.0 ∙ ap Some v.closes))
+
+pub ruleset named_steps = (takes_variable, variable_refuses, takes_element, index_refuses, element_refuses, takes_routine, routine_refuses, routine_not_closed)

@@ -7,14 +7,15 @@ use Rattle.pc_ast.specs.declared.expressions.Word.{Word}
 use Rattle.pc_ast.specs.declared.programs.CellKind.TheVariants.{Input, Output}
 use Rattle.pc_ast.specs.declared.programs.Item.{Item}
 use Rattle.pc_ast.specs.declared.programs.Item.TheVariants.{Function}
-use Rattle.pc_exprs.specs.Reading.{first}
-use Rattle.pc_exprs.specs.Grammar.{word_at}
-use Rattle.pc_items.specs.declared.frames.Frame.{Frame}
-use Rattle.pc_items.specs.Frames.{SpellsParameter, parameter, SpellsFrame}
-use Rattle.pc_items.proofs.Parameters.{parameter_first}
+use Rattle.pc_grammar.specs.Refusing.{first}
+use Rattle.pc_grammar.specs.Expressions.{word_at}
+use Rattle.pc_grammar.specs.declared.frames.Frame.{Frame}
+use Rattle.pc_grammar.specs.Frames.{SpellsParameter, parameter, SpellsFrame}
+use Rattle.pc_parse.proofs.Parameters.{parameter_first}
 use Rattle.pc_parse.specs.declared.items.ItemOpening.{ItemOpening}
 use Rattle.pc_parse.specs.declared.items.ItemOpening.TheVariants.{Input as InputOpening, Output as OutputOpening, Int as IntOpening, Void as VoidOpening, Nothing as NothingOpening}
-use Rattle.pc_parse.specs.Items.{item_opening_of, SpellsNamedItem, SpellsItem, input, output, named, routine, ReactiveTakes}
+use Rattle.pc_grammar.specs.Items.{SpellsNamedItem, SpellsItem, input, output, named, routine}
+use Rattle.pc_parse.specs.Items.{item_opening_of, ReactiveTakes}
 
 pub input_opens : item_opening_of ReactiveInputWord ≡ InputOpening
 unfolding item_opening_of

@@ -7,18 +7,22 @@ use Rattle.pc_ast.specs.declared.expressions.Word.{Word}
 use Rattle.pc_ast.specs.declared.programs.CellKind.{CellKind}
 use Rattle.pc_ast.specs.declared.programs.Item.{Item}
 use Rattle.pc_ast.specs.declared.programs.Item.TheVariants.{Scalar}
-use Rattle.pc_exprs.specs.declared.reading.Failure.{Failure}
-use Rattle.pc_exprs.specs.declared.reading.Failure.TheVariants.{Broken, Memory}
-use Rattle.pc_exprs.specs.Reading.{first, Comes, Refuses, Always}
-use Rattle.pc_exprs.proofs.Behind.{fails_behind, fails_here}
-use Rattle.pc_exprs.proofs.Operands.{some_token}
-use Rattle.pc_phrases.specs.Lists.{AfterName}
-use Rattle.pc_phrases.specs.Settings.{NumberComes, NoNumber}
-use Rattle.pc_items.specs.Constants.{ended, SpellsStart, positive, StartTakes, StartFails}
-use Rattle.pc_items.specs.Frames.{SpellsParameter, ParameterTakes, ParameterFails}
-use Rattle.pc_items.proofs.Parameters.{unique_parameter}
-use Rattle.pc_items.proofs.Starts.{unique_start}
-use Rattle.pc_parse.specs.Items.{SpellsSize, size, SpellsReactive, reactive, SizeTakes, SizeFails, ReactiveTakes, ReactiveFails}
+use Rattle.pc_parse.specs.declared.reading.Failure.{Failure}
+use Rattle.pc_parse.specs.declared.reading.Failure.TheVariants.{Broken, Memory}
+use Rattle.pc_grammar.specs.Refusing.{first}
+use Rattle.pc_parse.specs.Reading.{Comes, Refuses, Always}
+use Rattle.pc_parse.proofs.Behind.{fails_behind, fails_here}
+use Rattle.pc_parse.proofs.Operands.{some_token}
+use Rattle.pc_parse.specs.Lists.{AfterName}
+use Rattle.pc_parse.specs.Settings.{NumberComes, NoNumber}
+use Rattle.pc_grammar.specs.Constants.{ended, SpellsStart, positive}
+use Rattle.pc_parse.specs.Constants.{StartTakes, StartFails}
+use Rattle.pc_grammar.specs.Frames.{SpellsParameter}
+use Rattle.pc_parse.specs.Frames.{ParameterTakes, ParameterFails}
+use Rattle.pc_parse.proofs.Parameters.{unique_parameter}
+use Rattle.pc_parse.proofs.Starts.{unique_start}
+use Rattle.pc_grammar.specs.Items.{SpellsSize, size, SpellsReactive, reactive}
+use Rattle.pc_parse.specs.Items.{SizeTakes, SizeFails, ReactiveTakes, ReactiveFails}
 
 -- ---- the size of an array
 

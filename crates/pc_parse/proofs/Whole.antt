@@ -5,16 +5,19 @@ use Rattle.pt_base.specs.declared.rules.Span.{Span}
 use Rattle.pc_lex.specs.declared.tokens.Token.{Token}
 use Rattle.pc_lex.specs.Lexing.{Lexes, whole}
 use Rattle.pc_ast.specs.declared.programs.Item.{Item}
-use Rattle.pc_exprs.specs.declared.reading.Failure.{Failure}
-use Rattle.pc_exprs.specs.declared.reading.Failure.TheVariants.{Broken, Memory}
-use Rattle.pc_exprs.specs.Reading.{first, Takes, Refuses, Always, AtEnd}
-use Rattle.pc_exprs.proofs.Behind.{fails_behind}
-use Rattle.pc_exprs.proofs.Whole.{refused_where}
-use Rattle.pc_parse.specs.Items.{SpellsItem, ItemTakes, ItemFails}
-use Rattle.pc_parse.specs.Programs.{IsProgram, none, more, ProgramFails, OneProgram, span_at, IsBroken}
-use Rattle.pc_parse.specs.Trees.{IsTree}
+use Rattle.pc_parse.specs.declared.reading.Failure.{Failure}
+use Rattle.pc_parse.specs.declared.reading.Failure.TheVariants.{Broken, Memory}
+use Rattle.pc_grammar.specs.Refusing.{first}
+use Rattle.pc_parse.specs.Reading.{Takes, Refuses, Always, AtEnd}
+use Rattle.pc_parse.proofs.Behind.{fails_behind}
+use Rattle.pc_parse.proofs.WholeExpression.{refused_where}
+use Rattle.pc_grammar.specs.Items.{SpellsItem}
+use Rattle.pc_parse.specs.Items.{ItemTakes, ItemFails}
+use Rattle.pc_grammar.specs.Programs.{IsProgram, none, more, OneProgram, span_at, IsBroken}
+use Rattle.pc_parse.specs.Programs.{ProgramFails}
+use Rattle.pc_grammar.specs.Trees.{IsTree}
 use Rattle.pc_parse.proofs.Openings.{item_begins}
-use Rattle.pc_parse.proofs.Steps.{unique_item}
+use Rattle.pc_parse.proofs.ItemSteps.{unique_item}
 
 -- ---- a program that isn't at its end begins with an item
 

@@ -1,3 +1,10 @@
+pub mod Reading
+pub mod Expressions
+pub mod Lists
+pub mod Settings
+pub mod Simple
+pub mod Statements
+pub mod Constants
+pub mod Frames
 pub mod Items
 pub mod Programs
-pub mod Trees

@@ -1,13 +1,17 @@
 ghost use Rattle.std.specs.Prelude.{◌≡◌, ◌∷◌, Some, IfOk, IfErr};
-ghost use Rattle.pc_exprs.specs.Reading.{first, Refuses};
+ghost use Rattle.pc_grammar.specs.Refusing.{first};
+ghost use Rattle.pc_parse.specs.Reading.{Refuses};
 ghost use Rattle.pc_parse.specs.Items.{item_opening_of, SizeTakes, SizeFails, ReactiveTakes, ReactiveFails, FunctionTakes, FunctionFails, NamedItemTakes, NamedItemFails, ItemTakes, ItemFails};
 
+use crate::constants::start;
+use crate::expressions::between;
+use crate::frames::{function_frame, int_name};
+use crate::reading::{Failure, after, comes, split, word};
+use crate::settings::number_at;
 use pc_ast::{CellKind, Item, Word};
-use pc_exprs::{Failure, Mark, NESTING, Pair, after, between, comes, split, word};
-use pc_items::{function_frame, int_name, start};
+use pc_grammar::{Mark, Pair};
 use pc_lex::{Sort, Token};
-use pc_phrases::number_at;
-use pt_base::Text;
+use pt_base::{MOST_EXPRESSION_LEVELS, Text};
 use std::alloc::Global;
 
 /// What an item begins with.
@@ -83,7 +87,7 @@ fn function<'a>(
     ensures err { IfErr result (λ f. Refuses (FunctionFails source.now name) tokens.now f) }
 {
     let (frame, rest) = function_frame(alloc, source, tokens)?;
-    let (value, rest) = between(alloc, source, rest, NESTING, Pair::Result)?;
+    let (value, rest) = between(alloc, source, rest, MOST_EXPRESSION_LEVELS, Pair::Result)?;
     let Some(last) = after(rest, Mark::CloseBrace) else {
         return Err(Failure::Broken(rest.len()));
     };
@@ -101,7 +105,7 @@ fn function<'a>(
 }
 
 /// What stands behind `int` and a name: a variable, an array, or a function with a result.
-#[tactic(auto, using(crate::proofs::Named::named_steps))]
+#[tactic(auto, using(crate::proofs::NamedItems::named_steps))]
 fn named_item<'a>(
     alloc: Global,
     source: &Text,
@@ -176,7 +180,7 @@ fn routine<'a>(
 }
 
 /// The item at the front of the tokens, and the tokens after it.
-#[tactic(auto, using(crate::proofs::Steps::item_steps))]
+#[tactic(auto, using(crate::proofs::ItemSteps::item_steps))]
 pub fn item<'a>(
     alloc: Global,
     source: &Text,

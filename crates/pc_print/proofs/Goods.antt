@@ -12,7 +12,7 @@ use Rattle.pc_lex.specs.declared.fronts.Front.TheVariants.{Blank, Piece, Fault}
 use Rattle.pc_lex.specs.Spelling.{spelling_of, keywords, signs}
 use Rattle.pt_base.specs.Bytes.{is_digit}
 use Rattle.pc_lex.specs.Numbers.{is_word, number_of}
-use Rattle.pc_lex.specs.Lexing.{is_white, run_of, begins, closed_in, number_front, keyword_or_name, word_sort, run_front, sign_front, sign_of, comment_front, front_of, is_name, TextOf, AreSlices, Ending, Lexes, done, blank, piece, fault}
+use Rattle.pc_lex.specs.Lexing.{is_white, run_of, begins, closed_in, number_front, keyword_or_name, word_sort, run_front, sign_front, sign_of, comment_front, front_of, is_name, TextOf, AreSlices, CutEnd, Lexes, done, blank, piece, fault}
 use Rattle.pc_lex.proofs.Found.{found_among}
 use Rattle.pc_lex.proofs.Cuts.{known}
 use Rattle.pc_print.proofs.Sound.{Goods}
@@ -90,7 +90,7 @@ abbrev Smalls : List Token → Type 0
 Smalls [] = Unit {0}
 Smalls (t ∷ ts) = ((n : ℕ) → t.sort ≡ Number n → n < 4294967296) × Smalls ts
 
-smalls : {at : ℕ} {bytes : List ℕ} {ts : List Token} {e : Ending} → Lexes at bytes ts e → Smalls ts
+smalls : {at : ℕ} {bytes : List ℕ} {ts : List Token} {e : CutEnd} → Lexes at bytes ts e → Smalls ts
 smalls done = tt
 smalls (blank some is d) = smalls d
 smalls (piece {bytes = bytes} s some is d) =
@@ -108,5 +108,5 @@ all_good source (t ∷ ts) slices small =
     let here : P t = slices 0 t (omega arith) in
     (record { name = name_of t.sort (slice_range source t.span.from t.span.to) here; small = small.0 }, all_good source ts (λ k d within. slices (suc k) d (omega arith)) small.1)
 
-pub goods : (source : List ℕ) (ts : List Token) (e : Ending) → Lexes 0 source ts e → Goods source ts
+pub goods : (source : List ℕ) (ts : List Token) (e : CutEnd) → Lexes 0 source ts e → Goods source ts
 goods source ts e d = all_good source ts (known d source refl (omega arith)).slices (smalls d)

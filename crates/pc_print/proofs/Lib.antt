@@ -8,3 +8,11 @@ pub mod Fronts
 pub mod Stands
 pub mod Sound
 pub mod Goods
+pub mod Words
+pub mod BareBodies
+pub mod Reading
+pub mod Alike
+pub mod Settings
+pub mod Bodies
+pub mod ItemReading
+pub mod ItemSeen

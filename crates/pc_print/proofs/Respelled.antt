@@ -7,9 +7,9 @@ use Rattle.pc_lex.specs.declared.tokens.Token.{Token}
 use Rattle.pc_ast.specs.declared.expressions.Word.{Word}
 use Rattle.pc_ast.specs.declared.expressions.Expr.{Expr}
 use Rattle.pc_ast.specs.declared.expressions.Expr.TheVariants.{Number, Var, Elem, Unary, Chain}
-use Rattle.pc_exprs.specs.declared.marks.Pair.{Pair}
-use Rattle.pc_exprs.specs.Signs.{unary_in, binary_in, opens_of, closes_of}
-use Rattle.pc_exprs.specs.Grammar.{word_at, grown, SpellsOperand, number, name, element, unary, inside, SpellsBetween, between, SpellsLevel, operand, chain, SpellsRest, none, more, IsExpression}
+use Rattle.pc_grammar.specs.declared.marks.Pair.{Pair}
+use Rattle.pc_grammar.specs.Signs.{unary_in, binary_in, opens_of, closes_of}
+use Rattle.pc_grammar.specs.Expressions.{word_at, grown, SpellsOperand, number, name, element, unary, inside, SpellsBetween, between, SpellsLevel, operand, chain, SpellsRest, none, more, IsExpression}
 use Rattle.pc_print.specs.Tokens.{bytes_of_name, plain, bare}
 use Rattle.pc_print.proofs.Bare.{bares, bare-Var, bare-Elem, bare-Unary, bare-Chain}
 

@@ -16,8 +16,8 @@ use Rattle.pt_lines.proofs.NumberLaws.{leads}
 use Rattle.pc_ast.specs.declared.expressions.Word.{Word}
 use Rattle.pc_ast.specs.declared.expressions.Expr.{Expr}
 use Rattle.pc_ast.specs.declared.expressions.Expr.TheVariants.{Number, Var, Elem, Unary, Chain}
-use Rattle.pc_exprs.specs.declared.marks.Pair.{Pair}
-use Rattle.pc_exprs.specs.Grammar.{word_at, grown, SpellsOperand, number, name, element, unary, inside, SpellsBetween, between, SpellsLevel, operand, chain, SpellsRest, none, more}
+use Rattle.pc_grammar.specs.declared.marks.Pair.{Pair}
+use Rattle.pc_grammar.specs.Expressions.{word_at, grown, SpellsOperand, number, name, element, unary, inside, SpellsBetween, between, SpellsLevel, operand, chain, SpellsRest, none, more}
 use Rattle.pc_print.specs.Parts.{Part, mark, word, literal, blank, text}
 use Rattle.pc_print.specs.Canonical.{Piece, unary_sign, binary_sign, in_parentheses, tighter, gap, chain_level, further, operands, written, pieces, expression}
 use Rattle.pc_print.specs.Tokens.{bytes_of_name}

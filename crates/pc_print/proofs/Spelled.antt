@@ -9,9 +9,9 @@ use Rattle.pc_lex.specs.declared.tokens.Token.{Token}
 use Rattle.pc_ast.specs.declared.expressions.Word.{Word}
 use Rattle.pc_ast.specs.declared.expressions.Expr.{Expr}
 use Rattle.pc_ast.specs.declared.expressions.Expr.TheVariants.{Number, Var, Elem, Unary, Chain}
-use Rattle.pc_exprs.specs.declared.marks.Pair.{Pair}
-use Rattle.pc_exprs.specs.Signs.{unary_in, binary_in, level_of}
-use Rattle.pc_exprs.specs.Grammar.{word_at, grown, SpellsOperand, number, name, element, unary, inside, SpellsBetween, between, SpellsLevel, operand, chain, SpellsRest, none, more, IsExpression}
+use Rattle.pc_grammar.specs.declared.marks.Pair.{Pair}
+use Rattle.pc_grammar.specs.Signs.{unary_in, binary_in, level_of}
+use Rattle.pc_grammar.specs.Expressions.{word_at, grown, SpellsOperand, number, name, element, unary, inside, SpellsBetween, between, SpellsLevel, operand, chain, SpellsRest, none, more, IsExpression}
 use Rattle.pc_print.specs.Parts.{Part, mark, word, literal, blank, margin, line_end}
 use Rattle.pc_print.specs.Canonical.{Piece, is_neg, unary_sign, binary_sign, in_parentheses, tighter, gap, further, operands, written, pieces, expression}
 use Rattle.pc_print.specs.Tokens.{token_of, tokens}

@@ -6,7 +6,7 @@ use Rattle.pc_lex.specs.declared.tokens.Sort.{Sort}
 use Rattle.pc_lex.specs.declared.tokens.Sort.TheVariants.{Name, Number}
 use Rattle.pc_lex.specs.declared.tokens.Token.{Token}
 use Rattle.pc_lex.specs.Spelling.{spelling_of}
-use Rattle.pc_lex.specs.Lexing.{is_white, Ending, whole, Lexes, done, blank as blank_cut, piece as piece_cut}
+use Rattle.pc_lex.specs.Lexing.{is_white, CutEnd, whole, Lexes, done, blank as blank_cut, piece as piece_cut}
 use Rattle.pc_lex.proofs.Cuts.{token_at}
 use Rattle.pc_ast.specs.declared.expressions.Word.{Word}
 use Rattle.pc_print.specs.Parts.{Part, mark, word, literal, blank, margin, line_end, blanks, look, text}
@@ -57,20 +57,20 @@ slice_at front u v =
     let e : length front + length u - length front ≡ length u = omega arith in
     ap (λ (n : ℕ). take n (drop (length front) (front ++ (u ++ v)))) e ∙ ap (take (length u)) (drop_front front (u ++ v)) ∙ take-append_seam u v
 
-piece_before : (at : ℕ) (u r : List ℕ) (s : Sort) (ts : List Token) (e : Ending) → ReadWhole s u r → Lexes (at + length u) r ts e → Lexes at (u ++ r) (token_at s at (at + length u) ∷ ts) e
+piece_before : (at : ℕ) (u r : List ℕ) (s : Sort) (ts : List Token) (e : CutEnd) → ReadWhole s u r → Lexes (at + length u) r ts e → Lexes at (u ++ r) (token_at s at (at + length u) ∷ ts) e
 piece_before at u r s ts e k d = let some : 0 < length u = k.some in piece_cut s (omega (arith, length-append u r)) k.front (subst (λ x. Lexes (at + length u) x ts e) (sym (drop_front u r)) d)
 
-white_before : (at b : ℕ) (r : List ℕ) (ts : List Token) (e : Ending) → is_white b ≡ true → Lexes (at + 1) r ts e → Lexes at (b ∷ r) ts e
+white_before : (at b : ℕ) (r : List ℕ) (ts : List Token) (e : CutEnd) → is_white b ≡ true → Lexes (at + 1) r ts e → Lexes at (b ∷ r) ts e
 white_before at b r ts e white d = blank_cut (omega arith) (white_front b r white) d
 
-margin_before : (at level : ℕ) (r : List ℕ) (ts : List Token) (e : Ending) → Lexes (at + length (blanks level)) r ts e → Lexes at (blanks level ++ r) ts e
+margin_before : (at level : ℕ) (r : List ℕ) (ts : List Token) (e : CutEnd) → Lexes (at + length (blanks level)) r ts e → Lexes at (blanks level ++ r) ts e
 margin_before at zero r ts e d = subst (λ n. Lexes n r ts e) (omega arith) d
 margin_before at (suc level) r ts e d =
     let two : at + length (blanks (suc level)) ≡ at + 1 + 1 + length (blanks level) = omega arith in
     white_before at 32 (32 ∷ (blanks level ++ r)) ts e refl (white_before (at + 1) 32 (blanks level ++ r) ts e refl (margin_before (at + 1 + 1) level r ts e (subst (λ n. Lexes n r ts e) two d)))
 
 -- the text behind `front` and before v is cut into tokens that are alike to the canonical ones
-pub record ReadAs (source : List ℕ) (parts : List Part) (front v : List ℕ) (us : List Token) (e : Ending) : Type 0 where
+pub record ReadAs (source : List ℕ) (parts : List Part) (front v : List ℕ) (us : List Token) (e : CutEnd) : Type 0 where
   pub cut : List Token
   pub lexed : Lexes (length front) (text parts ++ v) (cut ++ us) e
   pub looks : map (plain (front ++ (text parts ++ v))) cut ≡ map (plain source) (tokens parts)
@@ -81,7 +81,7 @@ regrouped front u x v = append_assoc front u (x ++ v) ∙ ap (λ y. front ++ y) 
 further_on : (front u : List ℕ) → length (front ++ u) ≡ length front + length u
 further_on front u = length-append front u
 
-with_token : (source : List ℕ) (p : Part) (parts : List Part) (s : Sort) (t : Token) (front v : List ℕ) (us : List Token) (e : Ending) →
+with_token : (source : List ℕ) (p : Part) (parts : List Part) (s : Sort) (t : Token) (front v : List ℕ) (us : List Token) (e : CutEnd) →
     ReadWhole s (look p) (text parts ++ v) → tokens (p ∷ parts) ≡ t ∷ tokens parts → (s, bytes_of_name s (look p)) ≡ plain source t → ReadAs source parts (front ++ look p) v us e → ReadAs source (p ∷ parts) front v us e
 with_token source p parts s t front v us e read is same k =
     let u = look p in
@@ -97,7 +97,7 @@ with_token source p parts s t front v us e read is same k =
       looks = ap (λ h. h ∷ map (plain bytes) k.cut) here ∙ ap (λ r. plain source t ∷ r) later ∙ ap (map (plain source)) (sym is);
     }
 
-with_white : (source : List ℕ) (p : Part) (parts : List Part) (front v : List ℕ) (us : List Token) (e : Ending) → tokens (p ∷ parts) ≡ tokens parts →
+with_white : (source : List ℕ) (p : Part) (parts : List Part) (front v : List ℕ) (us : List Token) (e : CutEnd) → tokens (p ∷ parts) ≡ tokens parts →
     ((ts : List Token) → Lexes (length front + length (look p)) (text parts ++ v) ts e → Lexes (length front) (look p ++ (text parts ++ v)) ts e) → ReadAs source parts (front ++ look p) v us e → ReadAs source (p ∷ parts) front v us e
 with_white source p parts front v us e is before k =
     let u = look p in
@@ -107,7 +107,7 @@ with_white source p parts front v us e is before k =
       looks = ap (λ (b : List ℕ). map (plain b) k.cut) (sym (regrouped front u (text parts) v)) ∙ k.looks ∙ ap (map (plain source)) (sym is);
     }
 
-pub reads : (source : List ℕ) (parts : List Part) (front v : List ℕ) (us : List Token) (e : Ending) → Stands source parts v → Lexes (length front + length (text parts)) v us e → ReadAs source parts front v us e
+pub reads : (source : List ℕ) (parts : List Part) (front v : List ℕ) (us : List Token) (e : CutEnd) → Stands source parts v → Lexes (length front + length (text parts)) v us e → ReadAs source parts front v us e
 reads source [] front v us e s d = record { cut = []; lexed = subst (λ n. Lexes n v us e) (omega arith) d; looks = refl }
 reads source (p ∷ parts) front v us e s d = by_part p s (reads source parts (front ++ look p) v us e s.1 (subst (λ n. Lexes n v us e) long d))
   where

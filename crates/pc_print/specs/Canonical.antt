@@ -17,8 +17,8 @@ use Rattle.pc_ast.specs.declared.programs.CellKind.{CellKind}
 use Rattle.pc_ast.specs.declared.programs.CellKind.TheVariants.{Input, Output}
 use Rattle.pc_ast.specs.declared.programs.Item.{Item}
 use Rattle.pc_ast.specs.declared.programs.Item.TheVariants.{Scalar, Array, Function}
-use Rattle.pc_exprs.specs.Signs.{level_of}
-use Rattle.pc_parse.specs.Trees.{Program}
+use Rattle.pc_grammar.specs.Signs.{level_of}
+use Rattle.pc_grammar.specs.Trees.{Program}
 use Rattle.pc_print.specs.Parts.{Part, mark, word, literal, blank, margin, line_end, text}
 
 -- ---- expressions

@@ -1,3 +1,5 @@
 pub mod Parts
 pub mod Canonical
 pub mod Tokens
+pub mod Same
+pub mod SameItems

@@ -9,7 +9,7 @@ use Rattle.pc_ast.specs.declared.expressions.Expr.{Expr, fold-Expr}
 use Rattle.pc_ast.specs.declared.expressions.Expr.TheVariants.{Number, Var, Elem, Unary, Chain}
 use Rattle.pc_ast.specs.declared.expressions.Expr.TheOpen.{Expr-F, Number as OpenNumber, Var as OpenVar, Elem as OpenElem, Unary as OpenUnary, Chain as OpenChain}
 use Rattle.pc_lex.specs.Lexing.{Lexes, whole}
-use Rattle.pc_exprs.specs.Grammar.{IsExpression}
+use Rattle.pc_grammar.specs.Expressions.{IsExpression}
 use Rattle.pc_print.specs.Parts.{Part, mark, word, literal, blank, margin, line_end}
 use Rattle.pc_print.specs.Canonical.{expression, expression_text}
 

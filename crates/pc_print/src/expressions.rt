@@ -4,7 +4,7 @@ ghost use Rattle.pc_print.specs.Canonical.{written, pieces, chain_level, gap, is
 
 use crate::marks::{binary_sort, put_blank, put_mark, put_word, unary_sort};
 use pc_ast::{Expr, Word};
-use pc_exprs::level_number;
+use pc_grammar::level_number;
 use pc_lex::Sort;
 use pt_base::{BinOp, Memory, UnOp};
 use pt_lines::put_number;

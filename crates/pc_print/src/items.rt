@@ -8,7 +8,7 @@ use crate::marks::{put_blank, put_mark, put_signed, put_word};
 use crate::statements::put_statements;
 use pc_ast::{CellKind, Expr, Item, Word};
 use pc_lex::Sort;
-use pc_parse::Program;
+use pc_grammar::Program;
 use pt_base::{Memory, Text};
 use pt_lines::put_number;
 use std::alloc::Global;

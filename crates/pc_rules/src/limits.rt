@@ -1,4 +1,4 @@
-ghost use Rattle.std.specs.Prelude.{◌≡◌, ◌++◌, min, not, ◌&&◌, nat_lt, count_by, sum_by, IfOk};
+ghost use Rattle.std.specs.Prelude.{◌≡◌, ◌+◌, ◌++◌, min, not, ◌&&◌, nat_lt, count_by, sum_by, IfOk};
 ghost use Rattle.pc_weights.specs.Weights.{program_single};
 ghost use Rattle.pc_rules.specs.Marks.{heights};
 ghost use Rattle.pc_rules.specs.Judging.{is_input, is_output};
@@ -10,7 +10,8 @@ use pc_ast::CellKind;
 use pc_typed::{Cell, Function, Typed};
 use pc_weights::{single, weight};
 use pt_base::{
-    First, MOST_CELL_WORDS, MOST_HEIGHT, MOST_PASSAGE, MOST_PORTS, MOST_THREADS, MOST_WEIGHT, Memory, Rule, Span,
+    First, MOST_CELL_WORDS, MOST_HEIGHT, MOST_PASSAGE, MOST_PORTS, MOST_THREADS, MOST_WEIGHT,
+    Memory, Rule, Span,
 };
 use std::alloc::Global;
 
@@ -91,8 +92,16 @@ fn whole(first: First, typed: &Typed, single: u64) -> First
 {
     let end = Span::at_end(typed.length());
     first
-        .note_if(threads(typed.functions()) > MOST_THREADS as usize, Rule::Z2, end)
-        .note_if(cell_words(typed.cells()) > u64::from(MOST_CELL_WORDS), Rule::Z3, end)
+        .note_if(
+            threads(typed.functions()) > MOST_THREADS as usize,
+            Rule::Z2,
+            end,
+        )
+        .note_if(
+            cell_words(typed.cells()) > u64::from(MOST_CELL_WORDS),
+            Rule::Z3,
+            end,
+        )
         .note_if(weight(typed) > u64::from(MOST_WEIGHT), Rule::Z7, end)
         .note_if(single > u64::from(MOST_PASSAGE), Rule::Z8, end)
         .note_if(inputs(typed.cells()) > MOST_PORTS as usize, Rule::Z9, end)

@@ -1,12 +1,11 @@
 ghost use Rattle.std.specs.Prelude.{◌≡◌, ◌+◌, min, fold, map, None};
-ghost use Rattle.pc_typed.specs.Uses.{holds_pause, any_of};
 ghost use Rattle.pc_typed.specs.Finishing.{finishing};
 ghost use Rattle.pc_rules.specs.Marks.{Loop, Aborted, joined, one_more, marks, function_marks};
 ghost use Rattle.pt_base.specs.First.{first_of};
 ghost use Rattle.pc_rules.specs.Faults.{nesting_faults_at, note_mark};
 
 use pc_ast::Stmt;
-use pc_typed::{Function, Typed, may_finish};
+use pc_typed::{Function, Typed, holds_pause, may_finish};
 use pt_base::{First, MOST_NESTED, Rule, Span};
 
 /// The first fault of the rules on loops, and the first of the limits.
@@ -43,7 +42,7 @@ impl Noted {
                 limits: self.limits,
             },
             Some(_) => Noted {
-                rules: self.rules.note_if(holds(body), Rule::E2, span),
+                rules: self.rules.note_if(holds_pause(body), Rule::E2, span),
                 limits: self.limits.note_if(loops >= MOST_NESTED, Rule::Z5, span),
             },
         }
@@ -57,49 +56,6 @@ impl Noted {
             limits: self.limits.note_if(aborts >= MOST_NESTED, Rule::Z4, span),
         }
     }
-}
-
-/// Whether `EOT`, `PAR` or an abort stands in a statement.
-#[cycle(holds)]
-fn holds(s: &Stmt<u32>) -> bool
-    ensures { result ≡ holds_pause s.now }
-{
-    match s {
-        Stmt::Skip => false,
-        Stmt::Assign { .. } => false,
-        Stmt::Call { .. } => false,
-        Stmt::Block(all) => some_holds(all.as_slice()),
-        Stmt::If { test: _, yes, no } => {
-            if holds(yes.get()) {
-                return true;
-            }
-            match no {
-                None => false,
-                Some(no) => holds(no.get()),
-            }
-        }
-        Stmt::While {
-            span: _,
-            test: _,
-            most: _,
-            body,
-        } => holds(body.get()),
-        Stmt::Eot(_) => true,
-        Stmt::Par { .. } => true,
-        Stmt::Abort { .. } => true,
-    }
-}
-
-#[cycle(holds)]
-fn some_holds(all: &[Stmt<u32>]) -> bool
-    ensures { result ≡ any_of (map holds_pause all.now) }
-{
-    for s in all {
-        if holds(s) {
-            return true;
-        }
-    }
-    false
 }
 
 fn deeper(n: u32) -> u32

@@ -8,7 +8,7 @@ use crate::limits::{fits, has_few_operands};
 use crate::program::Small;
 use crate::steps::steps;
 use pc_ast::{Item, Stmt, Word};
-use pc_parse::Program;
+use pc_grammar::Program;
 use pt_base::Memory;
 use std::alloc::Global;
 

@@ -4,8 +4,8 @@ use Rattle.pt_base.specs.declared.Refusal.{Refusal}
 use Rattle.pt_base.specs.declared.Refusal.TheVariants.{Broken, Memory}
 use Rattle.pc_lex.specs.declared.Token.{Token}
 use Rattle.pc_lex.specs.Lexing as lexing
-use Rattle.pc_parse.specs.Programs.{IsProgram, IsBroken, RefusedIn}
-use Rattle.pc_parse.specs.Trees.{Program}
+use Rattle.pc_grammar.specs.Programs.{IsProgram, IsBroken, RefusedIn}
+use Rattle.pc_grammar.specs.Trees.{Program}
 use Rattle.pt_base.specs.declared.limits.TheConstants.{MOST_SOURCE_BYTES}
 use Rattle.pc_source.specs.Sources.{no_tokens, no_program, IsRead}
 

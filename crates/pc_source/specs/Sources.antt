@@ -9,8 +9,8 @@ use Rattle.pt_base.specs.declared.Refusal.{Refusal}
 use Rattle.pt_base.specs.declared.Refusal.TheVariants.{Broken, Memory}
 use Rattle.pc_lex.specs.declared.Token.{Token}
 use Rattle.pc_lex.specs.Lexing.{Lexes, whole, broken}
-use Rattle.pc_parse.specs.Programs.{IsProgram, IsBroken}
-use Rattle.pc_parse.specs.Trees.{Program}
+use Rattle.pc_grammar.specs.Programs.{IsProgram, IsBroken}
+use Rattle.pc_grammar.specs.Trees.{Program}
 
 -- the text's tokens spell this program
 pub record IsSource (text : List ℕ) (program : Program) : Type 0 where

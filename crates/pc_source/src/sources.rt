@@ -1,8 +1,9 @@
 ghost use Rattle.std.specs.Prelude.{◌≡◌};
 ghost use Rattle.pc_source.specs.Sources.{IsRead};
 
+use pc_grammar::Program;
 use pc_lex::lex;
-use pc_parse::{Program, parse};
+use pc_parse::parse;
 use pt_base::{MOST_SOURCE_BYTES, Refusal, Rule, Span, Text};
 use std::alloc::Global;
 

@@ -1,5 +1,6 @@
 pub mod Lists
 pub mod Finishes
+pub mod Pausing
 pub mod Renaming
 pub mod Cuts
 pub mod Standing

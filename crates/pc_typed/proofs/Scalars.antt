@@ -7,8 +7,8 @@ use Rattle.pc_ast.specs.declared.expressions.Word.{Word}
 use Rattle.pc_ast.specs.declared.programs.CellKind.{CellKind}
 use Rattle.pc_ast.specs.declared.programs.CellKind.TheVariants.{Input, Output, Plain}
 use Rattle.pc_ast.specs.declared.programs.Item.{Item}
-use Rattle.pc_parse.specs.Items.{SpellsReactive, reactive, SpellsFunction, function, SpellsNamedItem, plain, started, array, giving, SpellsItem, input, output, named, routine}
-use Rattle.pc_parse.specs.Programs.{IsProgram, none, more}
+use Rattle.pc_grammar.specs.Items.{SpellsReactive, reactive, SpellsFunction, function, SpellsNamedItem, plain, started, array, giving, SpellsItem, input, output, named, routine}
+use Rattle.pc_grammar.specs.Programs.{IsProgram, none, more}
 use Rattle.pc_typed.specs.Keeping.{IsTyped}
 use Rattle.pc_typed.specs.Typing.{Typing, typing_of}
 use Rattle.pc_typed.specs.Meant.{MeansWell}

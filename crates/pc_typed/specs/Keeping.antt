@@ -2,7 +2,7 @@
 use Rattle.std.specs.Prelude.{◌≡◌, Bool, List}
 use Rattle.pt_base.specs.declared.Rule.{Rule}
 use Rattle.pt_base.specs.declared.Span.{Span}
-use Rattle.pc_parse.specs.Trees.{Program, IsTree}
+use Rattle.pc_grammar.specs.Trees.{Program, IsTree}
 use Rattle.pc_typed.specs.Breaking.{Breaks}
 use Rattle.pc_typed.specs.Finishing.{finishing}
 use Rattle.pc_typed.specs.Typing.{Typing, typing_of}

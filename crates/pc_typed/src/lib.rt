@@ -6,8 +6,10 @@
 #![tactic(auto)]
 
 mod finishing;
+mod pauses;
 mod roles;
 mod typed;
 
+pub use pauses::{hold_pauses, holds_pause};
 pub use roles::Role;
 pub use typed::{Cell, Function, Typed, may_finish, names_mean_well};

@@ -13,7 +13,7 @@ use Rattle.mb_core.specs.Run.{run}
 use Rattle.pt_base.specs.declared.Rule.{Rule}
 use Rattle.pt_base.specs.declared.Span.{Span}
 use Rattle.pt_trace.specs.Refused.{refused_line}
-use Rattle.pc_parse.specs.Trees.{Program}
+use Rattle.pc_grammar.specs.Trees.{Program}
 use Rattle.pc_typed.specs.Typing.{Typing}
 use Rattle.pc_verdict.specs.Verdicts.{IsAccepted, BreaksFirst}
 use Rattle.pc_small.specs.Program as small

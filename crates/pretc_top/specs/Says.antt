@@ -4,7 +4,7 @@ use Rattle.pt_base.specs.declared.Rule.{Rule}
 use Rattle.pt_base.specs.declared.Span.{Span}
 use Rattle.pt_outside.specs.Files.{Files, KeepsFiles, Holds}
 use Rattle.pt_trace.specs.Accepted.{accepted_line}
-use Rattle.pc_parse.specs.Trees.{Program}
+use Rattle.pc_grammar.specs.Trees.{Program}
 use Rattle.pc_source.specs.Sources.{IsSource}
 use Rattle.pc_print.specs.Canonical.{program_text}
 use Rattle.pc_typed.specs.Typing.{Typing}

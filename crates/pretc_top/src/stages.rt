@@ -10,7 +10,7 @@ ghost use Rattle.pretc_top.specs.Stages.{FileFails, ProgramFails, BuildFails, St
 use crate::statuses::Status;
 use crate::verdicts::{Verdict, refused, said};
 use pc_compile::compile;
-use pc_parse::Program;
+use pc_grammar::Program;
 use pc_source::source_of;
 use pc_verdict::{Accepted, judged};
 use pt_base::{Many, Text};

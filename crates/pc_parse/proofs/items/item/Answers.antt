@@ -1,7 +1,7 @@
 use Rattle.std.proofs.Common.{◌∙◌, sym}
 use Rattle.std.proofs.lemmas.Result.{err_from_is_err_and, IfErr-weaker}
 use Rattle.pc_parse.proofs.Openings.{is_void}
-use Rattle.pc_parse.proofs.Steps.{name_refuses, behind_refuses, fails_nothing}
+use Rattle.pc_parse.proofs.ItemSteps.{name_refuses, behind_refuses, fails_nothing}
 use Rattle.pc_parse.proofs.items.item.Goals as goal
 
 pub returns-in_err-name-in-Int-clause-err : goal.returns-in_err-name-in-Int-clause-err

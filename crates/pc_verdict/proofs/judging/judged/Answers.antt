@@ -1,6 +1,6 @@
 use Rattle.std.proofs.Common.{Result, subst}
 use Rattle.pt_base.specs.declared.Refusal.{Refusal}
-use Rattle.pc_parse.specs.Trees.{Program}
+use Rattle.pc_grammar.specs.Trees.{Program}
 use Rattle.pc_source.specs.Sources.{IsRead}
 use Rattle.pc_typed.specs.Typing.{Typing}
 use Rattle.pc_names.specs.Resolving.{IsResolved}

@@ -1,6 +1,6 @@
 use Rattle.std.proofs.Common.{Result, subst}
 use Rattle.pt_base.specs.declared.Refusal.{Refusal}
-use Rattle.pc_parse.specs.Trees.{Program}
+use Rattle.pc_grammar.specs.Trees.{Program}
 use Rattle.pc_source.specs.Sources.{IsRead}
 use Rattle.pretc_top.proofs.Reading.{refusal_fails}
 use Rattle.pretc_top.proofs.stages.load_program.Goals as goal

@@ -1,0 +1,4 @@
+pub mod Equations
+pub mod ItemSpans
+pub mod Statements
+pub mod Within

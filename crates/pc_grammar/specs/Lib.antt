@@ -1,0 +1,13 @@
+pub mod Signs
+pub mod Refusing
+pub mod Expressions
+pub mod Lists
+pub mod Settings
+pub mod Simple
+pub mod Statements
+pub mod Constants
+pub mod Frames
+pub mod Items
+pub mod Programs
+pub mod Trees
+pub mod Spans

@@ -1,4 +1,0 @@
-pub mod Starts
-pub mod Parameters
-pub mod Locals
-pub mod Framed

@@ -1,9 +1,0 @@
-use Rattle.std.proofs.Common.{◌∙◌, w32, FitsSigned, rules}
-use Rattle.std.proofs.lemmas.Int.{to_z-of_z}
-use Rattle.pt_base.proofs.Words.{positive_is}
-use Rattle.pc_items.proofs.constants.positive_word.Goals as goal
-
-pub returns : goal.returns
-returns c =
-    let fits : FitsSigned w32 c.wrapping_add_unsigned.result = search rules in
-    to_z-of_z w32 c.wrapping_add_unsigned.result fits ∙ c.wrapping_add_unsigned.ensures ∙ positive_is c.args.value

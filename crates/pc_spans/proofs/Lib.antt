@@ -1,4 +1,0 @@
-pub mod Equations
-pub mod Within
-pub mod Statements
-pub mod Items

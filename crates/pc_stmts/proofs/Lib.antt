@@ -1,5 +1,0 @@
-pub mod Ends
-pub mod Unique
-pub mod Parts
-pub mod Steps
-pub mod Branches

@@ -20,7 +20,8 @@ done
 # the scopes that the TextMate rules give, by the first rule that matches at each place
 cat >"$work/scopes.py" <<'PYTHON'
 import json, re, sys
-rules = [(r["name"], re.compile(r.get("match") or r["begin"] + "[\\s\\S]*?" + r["end"], re.M)) for r in json.load(open(sys.argv[1]))["patterns"]]
+patterns = json.load(open(sys.argv[1]))["patterns"]
+rules = [(p["name"], re.compile(p.get("match") or p["begin"] + "[\\s\\S]*?" + p["end"], re.M)) for p in patterns]
 for name in sys.argv[2:]:
     text, at = open(name, encoding="utf-8").read(), 0
     while at < len(text):
@@ -31,8 +32,13 @@ for name in sys.argv[2:]:
         at = m.end()
         print(rules[i][0][: -len(".pretc")], m.group().split("\n")[0], sep="\t")
 PYTHON
-printf '%s\n' '/* a' 'b */ ReactiveInput int a = 0x1F; // EOT' 'void main() { while (a <= 10) #3 f(v[i], 007); weak abort EOT; when pre (a && !b); } @' >"$work/tokens.pc"
-python3 "$work/scopes.py" "$top/editors/textmate/pretc.tmLanguage.json" "$work/tokens.pc" | awk -F '\t' '{ print $1 }' | uniq -c | awk '{ print $2, $1 }' >"$work/scopes"
+scopes() { python3 "$work/scopes.py" "$top/editors/textmate/pretc.tmLanguage.json" "$@"; }
+cat >"$work/tokens.pc" <<'SOURCE'
+/* a
+b */ ReactiveInput int a = 0x1F; // EOT
+void main() { while (a <= 10) #3 f(v[i], 007); weak abort EOT; when pre (a && !b); } @
+SOURCE
+scopes "$work/tokens.pc" | awk -F '\t' '{ print $1 }' | uniq -c | awk '{ print $2, $1 }' >"$work/scopes"
 cat >"$work/wanted" <<'SCOPES'
 comment.block 1
 storage.modifier 1
@@ -72,14 +78,17 @@ punctuation 3
 invalid.illegal.byte 1
 SCOPES
 cmp -s "$work/scopes" "$work/wanted" || { wrong "textmate: other scopes"; diff "$work/wanted" "$work/scopes"; }
-python3 "$work/scopes.py" "$top/editors/textmate/pretc.tmLanguage.json" "$top"/examples/*.pc "$top"/examples/whole/*.pc | grep -q '^invalid' && wrong "textmate: an error in an example"
+scopes "$top"/examples/*.pc "$top"/examples/whole/*.pc | grep -q '^invalid' && wrong "textmate: an error in an example"
 
 # what Vim says at each token, where there is a Vim with colours
 if vim --version 2>/dev/null | grep -q '+syntax'; then
   cat >"$work/look.vim" <<'VIM'
 let out = []
-for place in [[1, 1], [2, 1], [2, 6], [2, 20], [2, 24], [2, 26], [2, 28], [2, 34], [3, 6], [3, 15], [3, 24], [3, 31], [3, 34], [3, 42], [3, 48], [3, 53], [3, 59], [3, 64], [3, 69], [3, 76], [3, 86]]
-  call add(out, synIDattr(synID(place[0], place[1], 1), "name"))
+let places = {1: [1], 2: [1, 6, 20, 24, 26, 28, 34], 3: [6, 15, 24, 31, 34, 42, 48, 53, 59, 64, 69, 76, 86]}
+for line in [1, 2, 3]
+  for column in places[line]
+    call add(out, synIDattr(synID(line, column, 1), "name"))
+  endfor
 endfor
 call writefile(out, $LOOK)
 VIM

@@ -41,7 +41,8 @@ edit '1s/14/x/'; refused 'cycles: bad, line 1: `bound` and a number are due' cyc
 edit '3d'; refused "cycles: bad, line 3: the line of tick 1 is due" cycles bad
 edit '3s/0/o/'; refused "cycles: bad, line 3: the outputs are no numbers" cycles bad
 edit '4s/ cycles 14//'; refused "cycles: bad, line 4: another form than that of tick 0" cycles bad
-edit '$d'; refused 'cycles: bad ends with `tick 7: 1 cycles 14`, not with `ticks 7 worst 14`: the run came to no end, or lines are missing' cycles bad
+edit '$d'
+refused 'cycles: bad ends with `tick 7: 1 cycles 14`, not with `ticks 7 worst 14`: the run came to no end, or lines are missing' cycles bad
 edit '$s/.*/trace T1 line 9/'
 refused 'cycles: bad ends with `trace T1 line 9`, not with `ticks 8 worst 14`: the run came to no end, or lines are missing' cycles bad
 refused "cycles: $top/examples/whole/abro.meaning has no cycles: take the report of a run on the machine, not of \`mean\`" \

@@ -75,6 +75,21 @@ printf '// \xc3\xa4\nint x = 0;\nvoid main() {\n\t/* \xc3\xa4 */ y = 1;\n}\n' >s
 echo "refused N2 41 42" >wanted
 { echo "pretc: s.pc, line 4, column 10: N2"; printf '  4 | \t/* \xc3\xa4 */ y = 1;\n    | \t        ^\n'; said N2; } >wanted_err
 front "several lines" 1 rules s.pc
+# what C has and PRET-C hasn't: by the mark at the place, or by a word of the line outside of comments
+here() {
+  printf '%s\n' "$2" >s.pc
+  PRETC_EXPLAIN=always "$top/pretc" rules s.pc >out 2>err </dev/null
+  [ "$(grep '^here: ' err)" = "${1:+here: $1}" ] || wrong "$2: $(cat err)"
+}
+here 'there is no `++` and no `--`: write `i = i + 1;`' 'int i; void main() { i++; }'
+here 'there is no `++` and no `--`: write `i = i + 1;`' 'int i; void main() { i--; }'
+here 'there is one loop: `while (c) #n` with the most turns, or `while (c)` whose body pauses' 'int i; void main() { for (i = 0; i < 3; i++) ; }'
+here 'every value is an `int` of 32 bits' 'unsigned x;'
+here 'there are no strings and no characters: write the number' 'int x; void main() { x = "a"; }'
+here 'write `1` and `0`' 'int x; void main() { x = true; }'
+here '' 'int x; void main() { /* for */ x = 1 }'
+printf '// \xc3\xa4\nint x = 0;\nvoid main() {\n\t/* \xc3\xa4 */ y = 1;\n}\n' >s.pc
+echo "refused N2 41 42" >wanted
 # nothing is said where it isn't asked for
 for asked in never ""; do
   PRETC_EXPLAIN="$asked" "$top/pretc" rules s.pc >out 2>err </dev/null; status=$?

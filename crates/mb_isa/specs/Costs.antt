@@ -1,5 +1,5 @@
 -- What each class charges: docs/machine.md, "Cost classes".
-use Rattle.std.specs.Prelude.{◌≡◌, ℕ, ◌<◌, ◌≤◌, List, [], ◌∷◌, All, length, slice_index_or}
+use Rattle.std.specs.Prelude.{◌≡◌, ℕ, ◌+◌, ◌*◌, ◌<◌, ◌≤◌, List, [], ◌∷◌, All, length, slice_index_or}
 use Rattle.mb_isa.specs.declared.costs.Class.{Class}
 use Rattle.mb_isa.specs.declared.costs.Class.TheVariants.{Alu, Shift, Mul, Div, Imm, Load, Store, Jump, Taken, Untaken, Fork, Eot, End, Abrt, Leave, Call, Ret, Loop, Next, Drop, Cend, Tick}
 
@@ -36,6 +36,10 @@ pub record IsCosts (numbers : List ℕ) : Type 0 where
 -- what a class charges
 abbrev pub cost_of : List ℕ → Class → ℕ
 cost_of costs class = slice_index_or costs (place class) 0
+
+-- what a tick itself is charged: once, once for each input and once for each output
+abbrev pub tick_charge : List ℕ → ℕ → ℕ → ℕ
+tick_charge costs inputs outputs = cost_of costs Tick * (1 + inputs + outputs)
 
 -- each class charges 1
 abbrev pub unit : List ℕ

@@ -3,3 +3,4 @@ pub mod Codes
 pub mod Candidates
 pub mod Costs
 pub mod Classes
+pub mod Operands

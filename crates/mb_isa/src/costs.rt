@@ -1,5 +1,5 @@
 ghost use Rattle.std.specs.Prelude.{◌≡◌, ◌<◌, ◌≤◌, All, length};
-ghost use Rattle.mb_isa.specs.Costs.{place, cost_of, unit, IsCosts};
+ghost use Rattle.mb_isa.specs.Costs.{place, cost_of, tick_charge, unit, IsCosts};
 
 use std::marker::Model;
 
@@ -89,6 +89,15 @@ impl Costs {
         ensures in_range { IsCosts self.now }
     {
         u64::from(self.numbers[class.place()])
+    }
+
+    /// What a tick itself is charged, with so many inputs and outputs.
+    pub fn tick(&self, inputs: usize, outputs: usize) -> u64
+        requires inputs { inputs ≤ 64 }
+        requires outputs { outputs ≤ 64 }
+        ensures { result ≡ tick_charge self.now inputs outputs }
+    {
+        self.cost(Class::Tick) * (1 + inputs as u64 + outputs as u64)
     }
 }
 

@@ -7,6 +7,7 @@
 mod costs;
 mod decoding;
 mod encoding;
+mod operands;
 mod registers;
 #[cfg(test)]
 mod tests;
@@ -15,5 +16,6 @@ mod words;
 pub use costs::{Class, Costs, unit_costs};
 pub use decoding::{decode, decode_encoded};
 pub use encoding::encode;
+pub use operands::{branch_place, immediate, turns, word_at_byte};
 pub use registers::Reg;
 pub use words::{Instr, class, takes_upper};

@@ -3,3 +3,4 @@ pub mod Text
 pub mod Reading
 pub mod Whole
 pub mod Form
+pub mod Listed

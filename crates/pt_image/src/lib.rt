@@ -7,6 +7,7 @@
 
 mod fault;
 mod image;
+mod listed;
 mod points;
 mod read;
 mod reading;
@@ -15,6 +16,7 @@ mod writing;
 
 pub use fault::ImageFault;
 pub use image::{AbortLine, Image, Parts, Point};
+pub use listed::is_listed;
 
 #[cfg(test)]
 mod tests;

@@ -1,0 +1,3 @@
+pub mod Seen
+pub mod Examples
+pub mod Configured

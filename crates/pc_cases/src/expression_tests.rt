@@ -1,5 +1,5 @@
-use pc_parse::whole_expression;
 use pc_lex::lex;
+use pc_parse::whole_expression;
 use pc_print::put_expression;
 use pt_base::{MOST_SOURCE_BYTES, Memory, Text};
 use std::alloc::{AllocError, Global};

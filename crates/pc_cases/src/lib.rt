@@ -8,6 +8,8 @@
 #[cfg(test)]
 mod expression_tests;
 #[cfg(test)]
+mod limit_tests;
+#[cfg(test)]
 mod name_tests;
 #[cfg(test)]
 mod parse_tests;

@@ -1,6 +1,6 @@
 use crate::shown;
-use pc_parse::{Failure, whole_expression};
 use pc_lex::{Tokens, lex};
+use pc_parse::{Failure, whole_expression};
 use pt_base::{MOST_SOURCE_BYTES, Refusal, Text};
 use std::alloc::{AllocError, Global};
 use std::test::Fail;

@@ -7,8 +7,8 @@ use crate::lines::{put_equals, put_line_end, put_margin, put_mark_line, put_stop
 use crate::marks::{put_blank, put_mark, put_signed, put_word};
 use crate::statements::put_statements;
 use pc_ast::{CellKind, Expr, Item, Word};
-use pc_lex::Sort;
 use pc_grammar::Program;
+use pc_lex::Sort;
 use pt_base::{Memory, Text};
 use pt_lines::put_number;
 use std::alloc::Global;

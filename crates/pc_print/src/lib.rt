@@ -13,5 +13,7 @@ mod statements;
 
 pub use expressions::put_expression;
 pub use items::{print, put_item};
-pub use laws::{canonical_body_spells, canonical_program_spells, canonical_text_spells, canonical_tokens_spell};
+pub use laws::{
+    canonical_body_spells, canonical_program_spells, canonical_text_spells, canonical_tokens_spell,
+};
 pub use statements::put_statement;

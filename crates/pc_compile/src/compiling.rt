@@ -10,7 +10,7 @@ use pt_image::Image;
 use std::alloc::Global;
 
 /// The image of a small program, or nothing where the tree isn't small.
-pub fn compile(alloc: Global, tree: &pc_parse::Program) -> Result<Option<Image>, Memory>
+pub fn compile(alloc: Global, tree: &pc_grammar::Program) -> Result<Option<Image>, Memory>
     ensures compiled { IfOk result (λ found. IfSome found (λ image. Compiles tree.now.items image)) }
     ensures not_small { result ≡ Ok None → (program : Program) → IsTreeOf tree.now.items program → ⊥ }
 {

@@ -1,5 +1,5 @@
 //! Small programs: declarations of cells, and a `main` that holds sums and pauses (`docs/language.md`,
-//! "Small programs"). It stands on the trees of `pc_ast` and the programs of `pc_parse`.
+//! "Small programs"). It stands on the trees of `pc_ast` and the programs of `pc_grammar`.
 //!
 //! Its contract: `small_of` gives the program that a tree is, and none exactly where the tree is none.
 //! A `Small` is within the limits, its steps speak of declared cells alone, and none of them assigns an input.

@@ -1,7 +1,7 @@
 ghost use Rattle.pc_verdict.specs.Verdicts.{IsJudgedText};
 
-use pc_names::resolve;
 use pc_grammar::Program;
+use pc_names::resolve;
 use pc_rules::judge;
 use pc_source::source_of;
 use pc_typed::Typed;

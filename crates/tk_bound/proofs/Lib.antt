@@ -1,0 +1,14 @@
+pub mod Values
+pub mod Rights
+pub mod Settles
+pub mod Chains
+pub mod Firsts
+pub mod Entries
+pub mod Sounds
+pub mod Steps
+pub mod Tests
+pub mod Begins
+pub mod Rests
+pub mod Whole
+pub mod Written
+pub mod Finds

@@ -1,0 +1,9 @@
+pub mod Words
+pub mod Kinds
+pub mod Sums
+pub mod Shape
+pub mod Acceptance
+pub mod Slots
+pub mod Machine
+pub mod Cert
+pub mod Written

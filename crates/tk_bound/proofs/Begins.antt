@@ -124,7 +124,7 @@ module _ (image : Image) (cert : Cert) where
         by false m j = (m, j)
 
     level-some : (place s : ℕ) (a : List ℕ) (k : ℕ) → cert.line place ≡ Thread s a [] → k ≤ length a → (side : Side) × (n : ℕ) × (cert.number side k place ≡ Some n)
-    level-some place s a k l h = (thread-of image cert accepted place (Thread s a []) l).3 k h
+    level-some place s a k l h = (thread-of image cert accepted place (Thread s a []) l).2 k h
 
     pub after-some : (a : List ℕ) (k at s : ℕ) (y : Side) → k ≤ length a → IsAt image cert (at + 1) (Thread s a []) → (side : Side) × (r : ℕ) × After image cert a k at y side r
     after-some a k at s ToEnd h l = level-some (at + 1) s a k l.0 h

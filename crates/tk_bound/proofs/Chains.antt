@@ -163,7 +163,7 @@ module _ (cert : Cert) where
             omega (arith, r, b, w)
           where
             loops-within : (low place : ℕ) (links cs : List ℕ) (c : Chain low place links cs) → length (chain_loops low place links cs c) ≤ 8
-            loops-within low place [] cs c = (subst (IsThreadFine image cert place) c.1 (thread place)).2
+            loops-within low place [] cs c = (subst (IsThreadFine image cert place) c.1 (thread place)).1
             loops-within low place (x ∷ links) cs c = (subst (IsThreadFine image cert place) c.3 (thread place)).0
 
         -- a call finds room for a link

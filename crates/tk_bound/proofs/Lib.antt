@@ -12,3 +12,9 @@ pub mod Rests
 pub mod Whole
 pub mod Written
 pub mod Finds
+pub mod Lists
+pub mod Carried
+pub mod Accepts
+pub mod Places
+pub mod Fine
+pub mod Accepted

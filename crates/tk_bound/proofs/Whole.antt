@@ -86,7 +86,7 @@ module _ (image : Image) (cert : Cert) (accepted : IsAccepted image cert) where
 
   owes-some : (s : ℕ) (a : List ℕ) (k low place : ℕ) (links cs : List ℕ) → k ≤ length a → Chain cert s a low place links cs → (side : Side) × (n : ℕ) × Owes cert side k place links cs n
   owes-some s a k low place [] cs h c =
-      let v = (thread-of image cert accepted place (Thread s a c.0) c.1).3 k h in
+      let v = (thread-of image cert accepted place (Thread s a c.0) c.1).2 k h in
       let t = turns-some c.0 cs [] c.2 in
       let T : List ℕ → Type 0 = λ l. Turns cert l cs [] t.0 in
       (v.0, v.1 + (t.0 + 0), (v.1, t.0, 0, [], v.2, subst T (sym (ap loops_of c.1)) t.1, (refl, refl), refl))

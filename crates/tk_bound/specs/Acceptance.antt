@@ -42,11 +42,15 @@ abbrev pub stack_of : Line → List ℕ
 stack_of (Thread slot stack loops levels) = stack
 stack_of other = []
 
+-- the value of a routine or a condition; no other line is asked for one
+abbrev pub value_of : Line → ℕ
+value_of (Routine height loops value) = value
+value_of (Cond value) = value
+value_of other = 0
+
 abbrev pub number_in : View → Line → Option ℕ
 number_in (On side level) line = on_side side (slice_get (levels_of line) level)
-number_in Value (Routine height loops value) = Some value
-number_in Value (Cond value) = Some value
-number_in Value other = None
+number_in Value line = Some (value_of line)
 
 -- the levels of a line, from the outermost abort inwards
 abbrev pub levels : Line → List ℕ
@@ -70,7 +74,7 @@ module _ (image : Parts) (cert : CertParts) (costs : List ℕ) where
 
   -- the value of a routine or a condition
   abbrev pub value : ℕ → ℕ
-  value place = or_zero (number Value place)
+  value place = value_of (line_at cert.lines place)
 
   -- the weight of a loop
   abbrev pub weight : ℕ → ℕ

@@ -191,7 +191,7 @@ module _ (image : Image) (cert : Cert) where
   -- A1: at each level a number is there, and the aborts are what they are to be
   abbrev pub IsThreadFine : ℕ → Line → Type 0
   IsThreadFine place (Thread s a l) =
-      AreAborts s [] a × (length a ≤ 8) × (length l ≤ 8) × Levels a (λ k. (side : Side) × (n : ℕ) × (cert.number side k place ≡ Some n))
+      AreAborts s [] a × (length l ≤ 8) × Levels a (λ k. (side : Side) × (n : ℕ) × (cert.number side k place ≡ Some n))
   IsThreadFine place (Routine h l) = (length l ≤ 8) × (h ≤ 16)
   IsThreadFine place other = Unit {0}
 

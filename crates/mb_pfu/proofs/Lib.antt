@@ -1,6 +1,7 @@
 pub mod Cases
 pub mod Frees
 pub mod Keeps
+pub mod Lasts
 pub mod Groups
 pub mod Climbs
 pub mod Reliefs

@@ -1,9 +1,11 @@
 //! The unit: the calls by which a machine asks for a move of its tables.
 
-ghost use Rattle.std.specs.Prelude.{◌==◌, is_some, ◌≡◌, ℕ, ◌+◌, ◌-◌, ◌^◌, ◌<◌, ◌≤◌, ◌↔◌, [], ◌∷◌, ◌++◌, List, length, OnErr, OnOk, IfOk, IsTrue, IfSome, IfNone};
+ghost use Rattle.std.specs.Prelude.{◌==◌, is_some, ◌≡◌, ℕ, ◌+◌, ◌-◌, ◌^◌, ◌<◌, ◌≤◌, ◌↔◌, [], ◌∷◌, ◌++◌, List, length, OnErr, OnOk, IfOk, IfErr, IsTrue, IfSome, IfNone};
 ghost use Rattle.mb_pfu.specs.Rows.{is_ready, relief, handler_of};
 ghost use Rattle.mb_pfu.specs.Tree.{Leaf, Running, next_job, slot_of, watches_of, next_test, tests_begun, test_answered, all_woken};
-ghost use Rattle.mb_pfu.specs.Unit.{is_nested, State, RefusedIf, Pauses, Finishes, Forks, Enters, Leaves, Returns, Counts, Drops, entry_of, fresh};
+ghost use Rattle.mb_pfu.specs.Unit.{is_nested, State, entry_of, fresh};
+ghost use Rattle.mb_pfu.specs.Calls as call;
+ghost use Rattle.mb_pfu.specs.Calls.{called, valued};
 
 use crate::parts::{AbortParts, Entry, Slot, TrapKind, Watch};
 use crate::slots::Slots;
@@ -81,7 +83,9 @@ impl Unit {
     pub fn pause(&mut self, s: u32, at: u32) -> Result<Option<u32>, TrapKind>
         requires ready { IsTrue (is_ready (slot_of s self.old.tree)) }
         requires low { at < 2 ^ 32 - 1 }
-        ensures { Pauses self.old s at result self.new }
+        ensures call { call.pause self.old s at ≡ called result self.new }
+        ensures handler { IfOk result (λ to. to ≡ handler_of (relief (watches_of s self.old.tree))) }
+        ensures refused { IfErr result (λ _. self.new ≡ self.old) }
     {
         if self.is_in_call_or_loop() {
             return Err(TrapKind::WrongPlace);
@@ -93,7 +97,8 @@ impl Unit {
     /// slot is there.
     pub fn finish(&mut self, s: u32) -> Result<(), TrapKind>
         requires ready { IsTrue (is_ready (slot_of s self.old.tree)) }
-        ensures { Finishes self.old s result self.new }
+        ensures call { call.finish self.old s ≡ called result self.new }
+        ensures refused { IfErr result (λ _. self.new ≡ self.old) }
     {
         if self.is_in_call_or_loop() || self.tree.depth(s) != 0 {
             return Err(TrapKind::WrongPlace);
@@ -108,7 +113,8 @@ impl Unit {
     pub fn fork(&mut self, s: u32, at: u32, lo: u32, starts: &[u32]) -> Result<(), TrapKind>
         requires ready { IsTrue (is_ready (slot_of s self.old.tree)) }
         requires low { at < 2 ^ 32 - 1 }
-        ensures { Forks self.old s at lo starts.now result self.new }
+        ensures call { call.fork self.old s at lo starts.now ≡ called result self.new }
+        ensures refused { IfErr result (λ _. self.new ≡ self.old) }
     {
         if self.is_in_call_or_loop()
             || starts.is_empty()
@@ -144,7 +150,9 @@ impl Unit {
     /// eight aborts.
     pub fn enter(&mut self, s: u32, number: u32, line: &AbortParts) -> Result<(), TrapKind>
         requires ready { IsTrue (is_ready (slot_of s self.old.tree)) }
-        ensures { Enters self.old s (fresh number line.now.weak line.now.cond line.now.handler) result self.new }
+        ensures call { call.enter self.old s (fresh number line.now.weak line.now.cond line.now.handler) ≡ called result self.new }
+        ensures ready { IsTrue (is_ready (slot_of s self.new.tree)) }
+        ensures refused { IfErr result (λ _. self.new ≡ self.old) }
     {
         if self.is_in_call_or_loop() {
             return Err(TrapKind::WrongPlace);
@@ -171,9 +179,12 @@ impl Unit {
 
     /// A ready slot leaves its innermost abort. `WrongPlace` where a link or a counter is there; else
     /// `TableEmpty` where the slot is inside none.
+    #[tactic(auto, using(crate::proofs::Lasts::leave_ready))]
     pub fn leave(&mut self, s: u32) -> Result<(), TrapKind>
         requires ready { IsTrue (is_ready (slot_of s self.old.tree)) }
-        ensures { Leaves self.old s result self.new }
+        ensures call { call.leave self.old s ≡ called result self.new }
+        ensures ready { IsTrue (is_ready (slot_of s self.new.tree)) }
+        ensures refused { IfErr result (λ _. self.new ≡ self.old) }
     {
         if self.is_in_call_or_loop() {
             return Err(TrapKind::WrongPlace);
@@ -187,7 +198,9 @@ impl Unit {
 
     /// One more link, to the code place `back`. `TableFull` where 16 are there.
     pub fn call(&mut self, back: u32) -> Result<(), TrapKind>
-        ensures { RefusedIf (length self.old.links == 16) TrapKind.TableFull self.old result self.new ((result ≡ Ok tt) × (self.new ≡ record self.old { links = self.old.links ++ back ∷ [] })) }
+        ensures call { call.call self.old back ≡ called result self.new }
+        ensures slots { self.new.tree ≡ self.old.tree }
+        ensures refused { IfErr result (λ _. self.new ≡ self.old) }
     {
         if self.links.len() == 16 {
             return Err(TrapKind::TableFull);
@@ -197,8 +210,11 @@ impl Unit {
     }
 
     /// The last link, which is dropped. `TableEmpty` where none is there.
+    #[tactic(auto, using(crate::proofs::Lasts::ret_gave))]
     pub fn ret(&mut self) -> Result<u32, TrapKind>
-        ensures { Returns self.old result self.new }
+        ensures call { call.ret self.old ≡ valued result self.new }
+        ensures slots { self.new.tree ≡ self.old.tree }
+        ensures refused { IfErr result (λ _. self.new ≡ self.old) }
     {
         match self.links.pop() {
             None => Err(TrapKind::TableEmpty),
@@ -208,7 +224,9 @@ impl Unit {
 
     /// One more counter, of so many turns. `TableFull` where 136 are there.
     pub fn loop_set(&mut self, turns: u32) -> Result<(), TrapKind>
-        ensures { RefusedIf (length self.old.counters == 136) TrapKind.TableFull self.old result self.new ((result ≡ Ok tt) × (self.new ≡ record self.old { counters = self.old.counters ++ turns ∷ [] })) }
+        ensures call { call.loop_set self.old turns ≡ called result self.new }
+        ensures slots { self.new.tree ≡ self.old.tree }
+        ensures refused { IfErr result (λ _. self.new ≡ self.old) }
     {
         if self.counters.len() == 136 {
             return Err(TrapKind::TableFull);
@@ -219,8 +237,11 @@ impl Unit {
 
     /// True where the last counter is over 0, and it is then one less; false where it is 0, and it is then
     /// dropped. `TableEmpty` where none is there.
+    #[tactic(auto, using(crate::proofs::Lasts::next_is_over, crate::proofs::Lasts::next_goes_on))]
     pub fn loop_next(&mut self) -> Result<bool, TrapKind>
-        ensures { Counts self.old result self.new }
+        ensures call { call.loop_next self.old ≡ valued result self.new }
+        ensures slots { self.new.tree ≡ self.old.tree }
+        ensures refused { IfErr result (λ _. self.new ≡ self.old) }
     {
         let _within = self.counters.len();
         match self.counters.pop() {
@@ -234,8 +255,11 @@ impl Unit {
     }
 
     /// Drops the last counter. `TableEmpty` where none is there.
+    #[tactic(auto, using(crate::proofs::Lasts::drop_gave))]
     pub fn drop_loop(&mut self) -> Result<(), TrapKind>
-        ensures { Drops self.old result self.new }
+        ensures call { call.drop_loop self.old ≡ called result self.new }
+        ensures slots { self.new.tree ≡ self.old.tree }
+        ensures refused { IfErr result (λ _. self.new ≡ self.old) }
     {
         match self.counters.pop() {
             None => Err(TrapKind::TableEmpty),

@@ -1,0 +1,166 @@
+#!/usr/bin/env bash
+# The front door on each rule of docs/rules.md: the built program refuses the smallest source with the answer that
+# stands there, and what is said on standard error is the place, the sentence and the advice; nothing else changes.
+set -u
+. "$(dirname "${BASH_SOURCE[0]}")/common/program.bash"
+rules="$top/docs/rules.md"
+
+# cells RULE: the cells of its row, one a line
+cells() { awk -F ' [|] ' -v rule="| $1" '$1 == rule { for (i = 2; i <= NF; i++) { sub(/ [|]$/, "", $i); print $i } }' "$rules"; }
+# said RULE: the two lines that end what is said of it
+said() {
+  local row name="$1"
+  mapfile -t row < <(cells "$1")
+  [ "${#row[@]}" -ge 2 ] || wrong "$1: no row"
+  case "$1" in [0-9]*) name="status $1" ;; esac
+  printf '%s: %s\nto mend it: %s\n' "$name" "${row[0]}" "${row[-1]}"
+}
+# front NAME STATUS WORD..: the front door's status and both its outputs, against the files wanted and wanted_err
+front() {
+  local name="$1" due="$2"
+  shift 2
+  PRETC_EXPLAIN=always "$top/pretc" "$@" >out 2>err </dev/null; status=$?
+  expect "$due" wanted "$name"
+  cmp -s err wanted_err || { wrong "$name: another explanation"; diff wanted_err err; }
+}
+# marks COLUMN COUNT: carets below a line that is shown as line 1
+marks() { printf '    | %*s%s\n' "$1" '' "$(printf '%*s' "$2" '' | tr ' ' '^')"; }
+# source_of RULE FROM TO: the front door on s.pc, a source of one line
+source_of() {
+  local rule="$1" from="$2" to="$3" text
+  text="$(head -c 100 s.pc)"
+  printf 'refused %s %s %s\n' "$rule" "$from" "$to" >wanted
+  if [ "$from" = "$to" ]; then
+    { echo "pretc: s.pc: $rule at the end"; echo "  1 | $text"; marks "$from" 1; said "$rule"; } >wanted_err
+  else
+    { echo "pretc: s.pc, line 1, column $((from + 1)): $rule"; echo "  1 | $text"; marks "$from" $((to - from)); said "$rule"; } >wanted_err
+  fi
+  front "$rule" 1 rules s.pc
+}
+tried=0
+for rule in $(grep -oE '^\| [LSNEZ][0-9] ' "$rules" | tr -d '| '); do
+  mapfile -t row < <(cells "$rule")
+  if [[ "${row[2]}" =~ ^\`(.*)\`:\ \`([0-9]+)\ ([0-9]+)\`$ ]]; then
+    printf '%s' "${BASH_REMATCH[1]}" >s.pc
+    source_of "$rule" "${BASH_REMATCH[2]}" "${BASH_REMATCH[3]}"
+    tried=$((tried + 1))
+  fi
+done
+[ "$tried" = 16 ] || wrong "$tried smallest sources, not 16"
+
+# those whose smallest source is long: the answer alone, and the sentence
+long() {
+  local rule="$1"
+  printf 'refused %s\n' "$1 $2" >wanted
+  PRETC_EXPLAIN=always "$top/pretc" rules s.pc >out 2>err </dev/null; status=$?
+  expect 1 wanted "$rule"
+  said "$rule" >wanted_err
+  tail -n 2 err | cmp -s - wanted_err || wrong "$rule: another explanation"
+}
+ended() { long "$1" "$(wc -c <s.pc) $(wc -c <s.pc)"; }
+names() { seq -f "$1%g" -s "$2" "$3"; }
+head -c 1048577 /dev/zero | tr '\0' ' ' >s.pc; long Z1 "1048576 1048576"
+{ for k in $(seq 64); do printf 'void t%d() { }\n' "$k"; done; printf 'void main() { PAR(%s); }' "$(names t , 64)"; } >s.pc; ended Z2
+{ printf 'void main() { '; for k in $(seq 9); do printf 'abort '; done; printf 'EOT;'; for k in $(seq 9); do printf ' when pre (0);'; done; echo ' }'; } >s.pc
+long Z4 "62 67"
+{ printf 'void main() { '; for k in $(seq 9); do printf 'while (0) #0 '; done; echo '; }'; } >s.pc; long Z5 "118 123"
+{ echo 'void r1() { }'; for k in $(seq 2 17); do printf 'void r%d() { r%d(); }\n' "$k" $((k - 1)); done; echo 'void main() { }'; } >s.pc
+place="$(($(grep -bo 'r17' s.pc | head -1 | cut -d: -f1)))"; long Z6 "$place $((place + 3))"
+{ printf 'int x; void main() { '; for k in $(seq 7500); do printf 'x = 1; '; done; printf '}'; } >s.pc; ended Z7
+{ for k in $(seq 65); do printf 'ReactiveInput int i%d = 0;\n' "$k"; done; printf 'void main() { }'; } >s.pc; ended Z9
+
+# a source of several lines, with a tab and a letter of two bytes before the place
+printf '// \xc3\xa4\nint x = 0;\nvoid main() {\n\t/* \xc3\xa4 */ y = 1;\n}\n' >s.pc
+echo "refused N2 41 42" >wanted
+{ echo "pretc: s.pc, line 4, column 10: N2"; printf '  4 | \t/* \xc3\xa4 */ y = 1;\n    | \t        ^\n'; said N2; } >wanted_err
+front "several lines" 1 rules s.pc
+# nothing is said where it isn't asked for
+for asked in never ""; do
+  PRETC_EXPLAIN="$asked" "$top/pretc" rules s.pc >out 2>err </dev/null; status=$?
+  expect 1 wanted "PRETC_EXPLAIN=$asked"; [ -s err ] && wrong "PRETC_EXPLAIN=$asked: something is said"
+done
+echo usage >wanted; said 2 >wanted_err; front "usage" 2 rules
+echo "no file" >wanted; said 17 >wanted_err; front "no file" 17 rules missing
+
+# the image, the certificate and the checker's no, on the counter
+image="$top/examples/counter.im"; cert="$top/examples/counter.cert"
+# damaged RULE FILE LINE EDIT: the edit of sed breaks the group, and the line is shown; 0 is the end of the file
+damaged() {
+  local rule="$1" file="$2" number="$3" im="$image" ce="$cert"
+  if [ "$file" = image ]; then sed "$4" "$image" >bad; im=bad; else sed "$4" "$cert" >bad; ce=bad; fi
+  echo "$file $rule" >wanted
+  if [ "$number" = 0 ]; then
+    echo "pretc: bad: $rule at the end of the file"
+  else
+    local line margin; line="$(sed -n "${number}p" bad)"; margin="$(printf '%*s' "${#number}" '')"
+    printf 'pretc: bad, line %d: %s\n  %d | %s\n  %s | %s\n' "$number" "$rule" "$number" "$line" "$margin" \
+      "$(printf '%*s' "$((${#line} > 0 ? ${#line} : 1))" '' | tr ' ' '^')"
+  fi >wanted_err
+  said "$rule" >>wanted_err
+  front "$rule" 8 check "$im" "$ce" -
+}
+damaged I1 image 1 's/^ARPRET 1/ARPRET 2/'; damaged I2 image 4 's/^30630001/3063000A/'; damaged I3 image 9 '9s/0/-0/'
+damaged I4 image 12 '12s/0/2/'; damaged I5 image 14 '14s/1/2/'; damaged I6 image 16 '16s/0/5/'
+damaged I7 image 18 '17s/0/1/;17a s 5 0'
+damaged I8 image 19 's/^3 0 0/3 0 1 0/'; damaged I9 image 0 '$d'; damaged I10 image 21 '$a x'
+damaged K1 cert 1 's/^PRETCERT 1/PRETCERT 2/'; damaged K2 cert 2 's/^bound 8/bound -/'; damaged K3 cert 5 '5s/ -$//'
+damaged K4 cert 9 's/^loops 0/loops x/'; damaged K5 cert 10 's/^slots 1/slots 0/'; damaged K6 cert 13 's/^p 3/q 3/'; damaged K7 cert 16 '$a x'
+# no RULE LINE PLACE NEEDED GIVEN EDIT: the edit of the certificate is refused, with the word and the line of the place
+no() {
+  local rule="$1" number="$2" at="$3" needed="$4" given="$5"
+  sed "$6" "$cert" >bad
+  echo "no $rule at $at level 0 needed $needed given $given" >wanted
+  {
+    echo "pretc: bad: $rule at place $at"
+    [ "$rule" = A7 ] || echo "  code place $at: $(sed -n "$((at + 3))p" "$image")  $(sed -n "$((at + 1))p" words)"
+    echo "  line $number of the certificate: $(sed -n "${number}p" bad)"
+    [ "$rule" = A1 ] || echo "  needed $needed, given ${given/#-/none}"
+    said "$rule"
+  } >wanted_err
+  front "$rule" 9 check "$image" bad -
+}
+printf '%s\n' 'lwi r3, r0, 0' 'addik r3, r3, 1' 'swi r3, r0, 4' eot 'bri -16' >words
+no A1 5 1 0 0 '5s/.*/-/'; no A3 4 0 4 3 '4s/4 -/3 -/'; no A4 7 3 1 0 '7s/1 -/0 -/'; no A6 7 3 5 - '11s/5/-/'; no A7 2 0 8 7 's/^bound 8/bound 7/'
+
+# what no command that is built answers: a stand-in for the program prints the line
+stand_in() { printf '#!/bin/sh\necho "%s"\n' "$1" >program; chmod +x program; }
+# aside NAME STATUS WORD..: what is said after such a line
+aside() {
+  local name="$1"
+  shift
+  "$top/tools/explain" ./program "$1" "${start:-0}" "${@:2}" >out 2>err <input; status=$?
+  : >wanted; expect 0 wanted "$name"
+  cmp -s err wanted_err || { wrong "$name: another explanation"; diff wanted_err err; }
+}
+: >input
+for rule in A2 A5; do
+  stand_in "no $rule at 1 level 0 needed 6 given 5"
+  { echo "pretc: $cert: $rule at place 1"; echo "  code place 1: 30630001  addik r3, r3, 1"; echo "  line 5 of the certificate: T 0 0 0 3 -"
+    [ "$rule" = A2 ] || echo "  needed 6, given 5"; said "$rule"; } >wanted_err
+  aside "$rule" 9 check "$image" "$cert" -
+done
+printf 'alu = 0\nnop = 1\n' >costs
+stand_in "costs C1"; { echo "pretc: costs: C1"; said C1; } >wanted_err; aside C1 6 check "$image" "$cert" costs
+stand_in "costs C2 cend"; { echo "pretc: costs: C2 cend"; said C2; } >wanted_err; aside C2 6 run s.pc costs im ce
+stand_in "costs C3 alu"; { printf 'pretc: costs, line 1: C3\n  1 | alu = 0\n    | ^^^^^^^\n'; said C3; } >wanted_err; aside C3 6 run s.pc costs im ce
+stand_in "costs C4"; { printf 'pretc: costs, line 2: C4\n  2 | nop = 1\n    | ^^^^^^^\n'; said C4; } >wanted_err; aside C4 6 run s.pc costs im ce
+# the trace begins behind its first three bytes here
+start=3
+printf 'no\n4\n5\n2147483648\n' >input
+{ printf 'pretc: the trace, line 3: T1\n  3 | 2147483648\n    | ^^^^^^^^^^\n'; said T1; } >wanted_err; aside T1 7 mean "$top/examples/p1.pc"
+printf 'no\n4\n\n' >input
+{ printf 'pretc: the trace, line 2: T2\n  2 | \n    | ^\n  the program has 1 input\n'; said T2; } >wanted_err; aside T2 7 mean "$top/examples/p1.pc"
+start=0
+{ yes '' | head -1000000; echo x; } >input; printf 'void main() { }' >none.pc
+{ printf 'pretc: the trace, line 1000001: T3\n  1000001 | x\n          | ^\n'; said T3; } >wanted_err; aside T3 7 mean none.pc
+head -c 1025 /dev/zero | tr '\0' ' ' >input
+{ echo "pretc: the trace, line 1: T4"; } >wanted_err
+"$top/tools/explain" ./program 7 0 mean none.pc <input >out 2>err
+head -1 err | cmp -s - wanted_err && tail -n 2 err | cmp -s - <(said T4) || wrong "T4: another explanation"
+# where the trace is no file, all four are said
+{ echo "pretc: a line of the trace is refused; the last line of the output has its rule and its number"; for k in 1 2 3 4; do said "T$k"; done; } >wanted_err
+"$top/tools/explain" ./program 7 0 mean none.pc < <(echo x) >out 2>err
+cmp -s err wanted_err || wrong "a trace from a pipe: another explanation"
+for status in 3 4 5 10 11 12; do said "$status" >wanted_err; aside "status $status" "$status" go s.pc im; done
+[ "$failed" = 0 ] && echo "explain: all as they must be"
+exit "$failed"

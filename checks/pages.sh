@@ -1,0 +1,27 @@
+#!/usr/bin/env bash
+# The worked examples of docs/language.md are the programs of examples/whole that it names, with their traces and outputs.
+set -u
+top="$(cd "$(dirname "${BASH_SOURCE[0]}")/.." && pwd)"
+page="$top/docs/language.md"
+section="$(mktemp)"
+trap 'rm -f "$section"' EXIT
+failed=0
+wrong() { echo "FAILED: $*"; failed=1; }
+for name in button order stops average; do
+  program="$top/examples/whole/$name.pc"
+  # the section that names the program: its first block of code, and the first and last cells of its table
+  awk -v name="$name.pc" '/^## / { if (text ~ "This is .*" name) printf "%s", text; text = "" } { text = text $0 "\n" }' "$page" >"$section"
+  awk '/^```/ { n++; next } n == 1' "$section" | cmp -s - "$program" || wrong "$name: another program"
+  awk -F ' *[|] *' '/^[|] `/ { print $2 }' "$section" | tr -d '`' | cmp -s - "${program%.pc}.trace" || wrong "$name: another trace"
+  awk -F ' *[|] *' '/^[|] `/ { print $(NF - 1) }' "$section" | tr -d '`' | cmp -s - <(sed -n 's/^tick [0-9]*: //p' "${program%.pc}.meaning") || wrong "$name: other outputs"
+done
+# each rule has a row of its own in the table of rules
+for rule in Z{1..9} L{1..3} S1 N{1..8} E1 E2 T{1..4} C{1..4} I{1..10} K{1..7} A{1..7}; do
+  [ "$(grep -c "^| $rule |" "$top/docs/rules.md")" = 1 ] || wrong "docs/rules.md: $rule hasn't one row"
+done
+# every link between the pages goes somewhere
+while IFS=: read -r file link; do
+  [ -e "$(dirname "$top/$file")/${link%%#*}" ] || wrong "$file: no $link"
+done < <(cd "$top" && grep -oE '\]\([^)#:]+[)#]' README.md docs/*.md examples/README.md | sed 's/\](/ /; s/[)#]$//; s/: /:/')
+[ "$failed" = 0 ] && echo "pages: all as they must be"
+exit "$failed"

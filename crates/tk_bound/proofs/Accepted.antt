@@ -48,7 +48,7 @@ level-some (x ∷ v) zero h t =
     ⊎_elim (λ e. let n = some-there x.0 e in (ToPause, n.0, n.1)) (λ e. let n = some-there x.1 e in (ToEnd, n.0, n.1)) (or_cases (is_some x.0) (is_some x.1) p.0)
 level-some (x ∷ v) (suc k) h t = level-some v k (omega (arith, h)) (and_parts (has_number x) (list_all has_number v) t).1
 
-abort-there : (aborts : List AbortLine) (j : ℕ) → j < length aborts → (l : AbortLine) × (slice_get aborts j ≡ Some l) × (slice_index_or aborts j no_abort ≡ l)
+pub abort-there : (aborts : List AbortLine) (j : ℕ) → j < length aborts → (l : AbortLine) × (slice_get aborts j ≡ Some l) × (slice_index_or aborts j no_abort ≡ l)
 abort-there [] j h = absurd (omega (arith, h))
 abort-there (l ∷ aborts) zero h = (l, refl, refl)
 abort-there (l ∷ aborts) (suc j) h = abort-there aborts j (omega (arith, h))

@@ -18,3 +18,8 @@ pub mod Accepts
 pub mod Places
 pub mod Fine
 pub mod Accepted
+pub mod Landed
+pub mod Turns
+pub mod Controls
+pub mod Turned
+pub mod Bounds

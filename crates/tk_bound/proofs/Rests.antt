@@ -21,7 +21,7 @@ middle-ready (member u us) behind t h = by (has_ready u) (middle-ready us behind
     by true e = refl
     by false e = e
 
-plug-ready : (context : Context) (t : Tree) → has_ready t ≡ true → has_ready (plug context t) ≡ true
+pub plug-ready : (context : Context) (t : Tree) → has_ready t ≡ true → has_ready (plug context t) ≡ true
 plug-ready [] t h = h
 plug-ready (f ∷ fs) t h = plug-ready fs (filled f t) (middle-ready f.before f.behind t h)
 

@@ -7,3 +7,4 @@ pub mod Slots
 pub mod Machine
 pub mod Cert
 pub mod Written
+pub mod Bounded

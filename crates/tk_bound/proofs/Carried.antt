@@ -12,7 +12,8 @@ use Rattle.mb_step.specs.Tick.{base_of}
 use Rattle.tk_cert.specs.declared.cert.Line.{Line}
 use Rattle.tk_cert.specs.declared.cert.Line.TheVariants as line
 use Rattle.tk_cert.specs.declared.cert.CertParts.{CertParts}
-use Rattle.tk_bound.specs.Words.{Word, read}
+use Rattle.tk_bound.specs.declared.word.Word.{Word}
+use Rattle.tk_bound.specs.Words.{read}
 use Rattle.tk_bound.specs.Kinds.{line_at, is_thread, is_routine, is_cond, loops_of, is_inside, same_kind, upper_at, start_of, abort_at}
 use Rattle.tk_bound.specs.Shape.{weight_in}
 use Rattle.tk_bound.specs.Acceptance.{On, number, value, resumed}

@@ -23,7 +23,9 @@ use Rattle.tk_cert.specs.declared.cert.CertParts.{CertParts}
 use Rattle.tk_cert.specs.Shapes.{IsShaped, IsCert}
 use Rattle.tk_cert.specs.Demands.{Demand, shape_demand, at_least, reaches, AllHold}
 use Rattle.tk_bound.specs.Sums.{Side, ToPause, ToEnd, plus, greater, or_zero, lowered, all_ends, most_paused, greatest}
-use Rattle.tk_bound.specs.Words.{Word, Does, Imm, Jump, Branch, Fork, Eot, End, Abrt, Leave, Call, Ret, Loop, Next, Drop, Cend, word_of, instr_at, read_instr, read}
+use Rattle.tk_bound.specs.declared.word.Word.{Word}
+use Rattle.tk_bound.specs.declared.word.Word.TheVariants.{Does, Imm, Jump, Branch, Fork, Eot, End, Abrt, Leave, Call, Ret, Loop, Next, Drop, Cend}
+use Rattle.tk_bound.specs.Words.{word_of, instr_at, read_instr, read}
 use Rattle.tk_bound.specs.Kinds.{line_at, is_thread, is_cond, loops_of, is_inside, same_kind, upper_behind, upper_at, word_at, places_of, start_of, abort_at, points_at, place_in, asked_by_aborts, asked_by_word, asked_from_line, asked_from, asked, is_asked}
 use Rattle.tk_bound.specs.Shape.{weight_in, has_number, may_follow, in_thread, on_last, may_call, may_return, may_loop, keeps_kind, leads, children_start, word_is_shaped, aborts_are_shaped, says_well, line_is_shaped, pause_is_shaped, fork_is_shaped, place_is_shaped, tables_fit, shape, apart, is_pause_word, is_fork_word}
 use Rattle.tk_bound.specs.Acceptance.{View, On, Value, level_of, levels_of, stack_of, number_in, levels, views_of, more, number, value, weight, resumed, begins, weak_handlers, strong_handlers, conditions, edge, left_view, ending, closing, inner_weight, word_edges, line_edges, edges, pause_handlers, pause_at_level, word_pauses, pauses, fork_ends, fork_handlers, fork_at_level, word_forks, forks, resuming, bounded, asks}

@@ -6,7 +6,7 @@ use Rattle.mb_pfu.specs.Tree.{Running, Pausing, Finished, Tree, Group, Leaf, Wai
 use Rattle.mb_pfu.specs.Rows.{relief, relief_with}
 use Rattle.mb_pfu.specs.Contexts.{filled, Frame, Context, plug}
 use Rattle.tk_bound.specs.Slots.{beyond, middle}
-use Rattle.tk_bound.specs.Words.{Fork}
+use Rattle.tk_bound.specs.declared.word.Word.TheVariants.{Fork}
 use Rattle.tk_bound.specs.Machine.{Image, stack, IsListed}
 use Rattle.tk_bound.specs.Cert.{IsPlain, Cert, Thread, both_sides, Handled, AreAborts}
 use Rattle.tk_bound.specs.Sums.{Side, ToPause, ToEnd}

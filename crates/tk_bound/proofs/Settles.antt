@@ -6,7 +6,8 @@ use Rattle.mb_pfu.specs.Tree.{Running, Pausing, Finished, Tree, Group, Leaf, Wai
 use Rattle.mb_pfu.specs.Rows.{relief}
 use Rattle.mb_pfu.specs.Contexts.{filled, Frame, Context, climb}
 use Rattle.tk_bound.specs.Slots.{beyond, middle}
-use Rattle.tk_bound.specs.Words.{Word, Eot, Fork}
+use Rattle.tk_bound.specs.declared.word.Word.{Word}
+use Rattle.tk_bound.specs.declared.word.Word.TheVariants.{Eot, Fork}
 use Rattle.tk_bound.specs.Machine.{Image, stack}
 use Rattle.tk_bound.specs.Sums.{Side, ToPause, ToEnd}
 use Rattle.tk_bound.specs.Cert.{Cert, Line, Thread, IsBare, Pays, Rests, Handled, upper_at, IsPlain, IsAt, AreAborts, IsThreadFine, IsFine, IsAccepted}

@@ -7,7 +7,7 @@ use Rattle.mb_pfu.specs.Tree.{Activity, Running, Tree, Group, Leaf, Waits, no_mo
 use Rattle.mb_pfu.specs.Rows.{relief}
 use Rattle.mb_pfu.specs.Contexts.{filled, Context, plug, climb}
 use Rattle.tk_bound.specs.Slots.{beyond, middle}
-use Rattle.tk_bound.specs.Words.{Fork}
+use Rattle.tk_bound.specs.declared.word.Word.TheVariants.{Fork}
 use Rattle.tk_bound.specs.Machine.{Image, stack, begun, IsSound, occurs, occurs_among, is_busy}
 use Rattle.tk_bound.specs.Cert.{Cert, Line, Thread, IsAccepted}
 use Rattle.tk_bound.proofs.Rights.{IsWaiting, IsRight, AreRight}

@@ -9,7 +9,8 @@ use Rattle.mb_pfu.specs.Rows.{relief, with_last}
 use Rattle.mb_pfu.specs.Contexts.{Context, plug, climb, IsQuietBefore}
 use Rattle.tk_bound.specs.Slots.{middle, without_last}
 use Rattle.mb_pfu.specs.Unit.{fresh}
-use Rattle.tk_bound.specs.Words.{Word, Does, Imm, Jump, Branch, Eot, Fork, End, Abrt, Leave, Call, Ret, Loop, Next, Drop, Cend}
+use Rattle.tk_bound.specs.declared.word.Word.{Word}
+use Rattle.tk_bound.specs.declared.word.Word.TheVariants.{Does, Imm, Jump, Branch, Eot, Fork, End, Abrt, Leave, Call, Ret, Loop, Next, Drop, Cend}
 use Rattle.tk_bound.specs.Machine.{Image, State, Outcome, Goes, Traps, Stops, InTurns, stack, unless, is_none, is_nested, is_busy, is_zero, begun, going, branched, returned, turned, dropped, effect, turn_at, Turn, IsSound}
 use Rattle.mb_pfu.specs.declared.parts.TrapKind.{TrapKind}
 use Rattle.mb_pfu.specs.declared.parts.TrapKind.TheVariants.{WrongPlace, TableFull, TableEmpty, SlotBusy}

@@ -6,7 +6,7 @@ use Rattle.mb_pfu.specs.declared.parts.Watch.{Watch}
 use Rattle.mb_pfu.specs.Tree.{Running, Pausing, Finished, Tree, Group, Leaf, Waits, no_more, member, size, has_ended, all_ended, each_member, wakes, all_woken}
 use Rattle.mb_pfu.specs.Rows.{answered, any_due, or_else}
 use Rattle.tk_bound.specs.Slots.{Judged, Cut, Kept, behind_one, judged, judged_tree, first_cond, next_cond, next_cond_among, if_some, test_answered, test_answered_among}
-use Rattle.tk_bound.specs.Words.{Eot, Fork}
+use Rattle.tk_bound.specs.declared.word.Word.TheVariants.{Eot, Fork}
 use Rattle.tk_bound.specs.Machine.{Image, stack, IsListed}
 use Rattle.tk_bound.specs.Sums.{Side, ToEnd}
 use Rattle.tk_bound.specs.Cert.{Cert, Thread, both_sides, After, IsPlain, IsAt, AreAborts, IsAccepted}

@@ -47,7 +47,9 @@ use Rattle.tk_bound.specs.Slots.{next_cond}
 use Rattle.tk_bound.specs.Machine.{Image, State, Outcome, Goes, Traps, Stops, IsSound, stack, unless, is_none, is_nested, is_zero, is_busy, occurs, effect, returned, turned, dropped, turn_at, test_at, test_effect, begun}
 use Rattle.tk_bound.specs.Machine as machine
 use Rattle.tk_bound.specs.Cert.{Cert, IsAccepted}
-use Rattle.tk_bound.specs.Words.{Word, Does, Imm, Jump, Branch, Fork, Eot, End, Abrt, Leave, Call, Ret, Loop, Next, Drop, Cend, word_of, goal_of, instr_in, read_instr, read}
+use Rattle.tk_bound.specs.declared.word.Word.{Word}
+use Rattle.tk_bound.specs.declared.word.Word.TheVariants.{Does, Imm, Jump, Branch, Fork, Eot, End, Abrt, Leave, Call, Ret, Loop, Next, Drop, Cend}
+use Rattle.tk_bound.specs.Words.{word_of, goal_of, instr_in, read_instr, read}
 use Rattle.tk_bound.specs.Kinds.{start_of, abort_at}
 use Rattle.tk_bound.proofs.Firsts.{Job, job}
 use Rattle.tk_bound.proofs.Finds.{turn_of}

@@ -7,7 +7,8 @@ use Rattle.mb_pfu.specs.Tree.{Activity, Running, Tree, Group, Leaf, Waits, no_mo
 use Rattle.mb_pfu.specs.Contexts.{Frame, Context}
 use Rattle.tk_bound.specs.Slots.{middle, Judged, Cut, Kept, judged, judged_tree, first_cond, next_cond, if_some, test_answered, test_answered_among}
 use Rattle.mb_pfu.specs.Rows.{renewed}
-use Rattle.tk_bound.specs.Words.{Word, Does, Imm, Jump, Branch, Eot, Fork, End, Abrt, Leave, Call, Ret, Loop, Next, Drop, Cend}
+use Rattle.tk_bound.specs.declared.word.Word.{Word}
+use Rattle.tk_bound.specs.declared.word.Word.TheVariants.{Does, Imm, Jump, Branch, Eot, Fork, End, Abrt, Leave, Call, Ret, Loop, Next, Drop, Cend}
 use Rattle.tk_bound.specs.Machine.{Image, State, Outcome, Goes, Traps, Stops, Phase, Testing, InTest, InTurns, stack, IsSound, test_next, test_at, test_effect, chosen, answer, turn_at, StepIn, Step, Path, still, onward, Guided, still_guided, guided, IsLoose, IsConfiguration, first, loose, begun_free}
 use Rattle.tk_bound.specs.Cert.{upper_at, Cert, Line, Thread, Cond, IsBare, Reach, both_sides, loops_of, Ends, Over, With, Resumes, IsFine, IsAccepted, BoundsFreeTicks, BoundsGuided}
 use Rattle.tk_bound.specs.Sums.{Side}

@@ -15,7 +15,8 @@ use Rattle.tk_cert.specs.declared.cert.Line.TheVariants.{Bare, Thread, Routine, 
 use Rattle.tk_cert.specs.declared.cert.CertParts.{CertParts}
 use Rattle.tk_cert.specs.Demands.{Demand, at_least, AllHold}
 use Rattle.tk_bound.specs.Sums.{Side, ToPause, ToEnd, plus, or_zero, lowered, all_ends, most_paused, resumed_ends, resumed_paused, greatest}
-use Rattle.tk_bound.specs.Words.{Word, Does, Imm, Jump, Branch, Fork, Eot, End, Abrt, Leave, Call, Ret, Loop, Next, Drop, Cend}
+use Rattle.tk_bound.specs.declared.word.Word.{Word}
+use Rattle.tk_bound.specs.declared.word.Word.TheVariants.{Does, Imm, Jump, Branch, Fork, Eot, End, Abrt, Leave, Call, Ret, Loop, Next, Drop, Cend}
 use Rattle.tk_bound.specs.Kinds.{line_at, loops_of, word_at, places_of, start_of, abort_at, points_at}
 use Rattle.tk_bound.specs.Shape.{weight_in, shape, apart, children_at}
 

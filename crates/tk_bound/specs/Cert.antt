@@ -1,7 +1,8 @@
 -- Acceptance: what each place's line, the listed pauses and forks, and the bound are to meet. Loops stand innermost first.
 use Rattle.std.specs.Prelude.{length, ◌≡◌, ◌⊎◌, ◌≤◌, ◌<◌, ℕ, ℤ, zero, suc, ◌+◌, ◌*◌, ◌++◌, min, Bool, true, false, List, [], ◌∷◌, Option, Some, None}
 use Rattle.mb_pfu.specs.Tree.{Tree, has_ready}
-use Rattle.tk_bound.specs.Words.{Word, Does, Imm, Jump, Branch, Eot, Fork, End, Abrt, Leave, Call, Ret, Loop, Next, Drop, Cend}
+use Rattle.tk_bound.specs.declared.word.Word.{Word}
+use Rattle.tk_bound.specs.declared.word.Word.TheVariants.{Does, Imm, Jump, Branch, Eot, Fork, End, Abrt, Leave, Call, Ret, Loop, Next, Drop, Cend}
 use Rattle.tk_bound.specs.Machine.{Image, State, Traps, IsConfiguration, Step, Path, Guided, InTurns, begun_free}
 use Rattle.mb_pfu.specs.declared.parts.TrapKind.{TrapKind}
 use Rattle.mb_isa.specs.declared.Class.TheVariants as class

@@ -9,7 +9,9 @@ use Rattle.pt_image.specs.declared.Parts.{Parts}
 use Rattle.pt_image.specs.Listed.{same_numbers}
 use Rattle.tk_cert.specs.declared.cert.Line.{Line}
 use Rattle.tk_cert.specs.declared.cert.Line.TheVariants.{Bare, Thread, Routine, Cond}
-use Rattle.tk_bound.specs.Words.{Word, Does, Imm, Jump, Branch, Fork, Eot, End, Abrt, Leave, Call, Ret, Loop, Next, Drop, Cend, instr_at, read}
+use Rattle.tk_bound.specs.declared.word.Word.{Word}
+use Rattle.tk_bound.specs.declared.word.Word.TheVariants.{Does, Imm, Jump, Branch, Fork, Eot, End, Abrt, Leave, Call, Ret, Loop, Next, Drop, Cend}
+use Rattle.tk_bound.specs.Words.{instr_at, read}
 
 -- the line of a place; a place without one has a line that says nothing
 abbrev pub line_at : List Line → ℕ → Line

@@ -11,7 +11,8 @@ use Rattle.mb_pfu.specs.declared.parts.TrapKind.{TrapKind}
 use Rattle.mb_pfu.specs.declared.parts.TrapKind.TheVariants.{BadWord, OutOfCode, WrongPlace, TableFull, TableEmpty, SlotBusy}
 use Rattle.mb_isa.specs.declared.Class.{Class}
 use Rattle.mb_isa.specs.declared.Class.TheVariants as class
-use Rattle.tk_bound.specs.Words.{Word, Does, Imm, Jump, Branch, Eot, Fork, End, Abrt, Leave, Call, Ret, Loop, Next, Drop, Cend}
+use Rattle.tk_bound.specs.declared.word.Word.{Word}
+use Rattle.tk_bound.specs.declared.word.Word.TheVariants.{Does, Imm, Jump, Branch, Eot, Fork, End, Abrt, Leave, Call, Ret, Loop, Next, Drop, Cend}
 
 -- an image, and a cost table; a place is read with an upper half or none; where it is outside the code, doesn't decode, or may not follow an
 -- `imm` that stood before it, there is no word

@@ -13,7 +13,9 @@ use Rattle.tk_cert.specs.declared.cert.Line.{Line}
 use Rattle.tk_cert.specs.declared.cert.Line.TheVariants.{Bare, Thread, Routine, Cond}
 use Rattle.tk_cert.specs.declared.cert.CertParts.{CertParts}
 use Rattle.tk_cert.specs.Demands.{Demand, shape_demand}
-use Rattle.tk_bound.specs.Words.{Word, Does, Imm, Jump, Branch, Fork, Eot, End, Abrt, Leave, Call, Ret, Loop, Next, Drop, Cend, instr_at}
+use Rattle.tk_bound.specs.declared.word.Word.{Word}
+use Rattle.tk_bound.specs.declared.word.Word.TheVariants.{Does, Imm, Jump, Branch, Fork, Eot, End, Abrt, Leave, Call, Ret, Loop, Next, Drop, Cend}
+use Rattle.tk_bound.specs.Words.{instr_at}
 use Rattle.tk_bound.specs.Kinds.{line_at, is_thread, is_cond, loops_of, is_inside, same_kind, word_at, places_of, start_of, abort_at, points_at, is_asked}
 
 -- the weight of the loop at a place

@@ -2,32 +2,13 @@
 use Rattle.std.specs.Prelude.{ℕ, ℤ, false, if◌then◌else◌, length, slice_get, Option, Some, None}
 use Rattle.mb_isa.specs.declared.Instr.{Instr}
 use Rattle.mb_isa.specs.declared.Instr.TheVariants as instr
-use Rattle.mb_isa.specs.declared.Class.{Class}
+use Rattle.tk_bound.specs.declared.word.Word.{Word}
+use Rattle.tk_bound.specs.declared.word.Word.TheVariants.{Does, Imm, Jump, Branch, Fork, Eot, End, Abrt, Leave, Call, Ret, Loop, Next, Drop, Cend}
 use Rattle.mb_isa.specs.Candidates.{decoded}
 use Rattle.mb_isa.specs.Classes.{class_of, takes_upper}
 use Rattle.pt_image.specs.declared.Parts.{Parts}
 use Rattle.mb_isa.specs.Operands.{immediate, turns_of, branch_place}
 use Rattle.mb_step.specs.Words.{is_barred}
-
--- What a word comes to. A jump and a branch have a place only where that is a place of the code.
-pub data Word : Type 0 where
-  -- it goes on at the next place, at the charge of its class
-  Does : (class : Class) → Word
-  -- the same, and an upper half stands for the next word
-  Imm : (upper : ℤ) → Word
-  Jump : (to : Option ℕ) → Word
-  Branch : (to : Option ℕ) → Word
-  Fork : (lo count : ℕ) → Word
-  Eot : Word
-  End : Word
-  Abrt : (number : ℕ) → Word
-  Leave : Word
-  Call : (to : ℕ) → Word
-  Ret : Word
-  Loop : (turns : ℕ) → Word
-  Next : (to : ℕ) → Word
-  Drop : Word
-  Cend : Word
 
 -- where a branch with this imm leads, if that is a place of the code
 abbrev pub goal_of : Parts → ℕ → Option ℤ → ℤ → Option ℕ

@@ -5,6 +5,10 @@
 //! nothing: its contract is the theorem.
 #![tactic(auto)]
 
+mod word;
+
+pub use word::Word;
+
 ghost use Rattle.std.specs.Prelude.{ℕ, List};
 ghost use Rattle.pt_image.specs.declared.Parts.{Parts};
 ghost use Rattle.tk_cert.specs.declared.cert.CertParts.{CertParts};

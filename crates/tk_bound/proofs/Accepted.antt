@@ -1,47 +1,38 @@
 -- What acceptance says of an image as a whole: the conditions of which the bound is proved.
-use Rattle.std.proofs.Common.{◌≡◌, ◌≤◌, ◌<◌, ◌+◌, ◌*◌, ◌-◌, ◌&&◌, ◌||◌, ◌==◌, ◌⊎◌, min, ℕ, ℤ, zero, suc, Bool, true, false, not, nat_le, nat_lt, if◌then◌else◌, List, [], ◌∷◌, ◌++◌, map, filter, flat_map, reverse, length, slice_get, slice_index_or, is_some, Option, Some, None, refl, sym, ap, ◌∙◌, subst, inl, inr, ⊎_elim, arith, eqb-true, eq-eqb, add-one}
-use Rattle.std.proofs.lemmas.Bool.{and_parts, or_cases, false≢true, both_ways, not-true, cases_lt, cases_eq}
+use Rattle.std.proofs.Common.{◌≡◌, ◌≤◌, ◌<◌, ◌+◌, ◌&&◌, ◌||◌, ◌==◌, ◌⊎◌, ℕ, zero, suc, Bool, true, false, not, nat_le, nat_lt, if◌then◌else◌, List, [], ◌∷◌, ◌++◌, map, flat_map, reverse, length, slice_get, slice_index_or, is_some, Option, Some, None, refl, sym, ap, ◌∙◌, subst, inl, inr, ⊎_elim, arith, eqb-true, eq-eqb}
+use Rattle.std.proofs.lemmas.Bool.{and_parts, or_cases, false≢true, both_ways, not-true, cases_eq}
 use Rattle.std.proofs.lemmas.Bool.Decides.{nat_tests}
-use Rattle.std.proofs.lemmas.List.{length-reverse, get_or_past}
+use Rattle.std.proofs.lemmas.List.{length-reverse}
 use Rattle.std.proofs.lemmas.Option.{none-some, same_Some}
-use Rattle.std.specs.List.{AllByRecursion, list_all, list_any, range_with_len}
+use Rattle.std.specs.List.{list_all, range_with_len}
 use Rattle.mb_isa.specs.declared.Instr.{Instr}
 use Rattle.mb_isa.specs.declared.Instr.TheVariants as instr
-use Rattle.mb_isa.specs.declared.Class.{Class}
-use Rattle.mb_isa.specs.declared.Class.TheVariants as class
-use Rattle.mb_isa.specs.Costs.{cost_of}
 use Rattle.pt_image.specs.declared.Point.{Point}
 use Rattle.pt_image.specs.declared.AbortLine.{AbortLine}
 use Rattle.pt_image.specs.declared.Parts.{Parts}
-use Rattle.pt_image.specs.Ranges.{IsImage, IsPoint}
+use Rattle.pt_image.specs.Ranges.{IsPoint}
 use Rattle.pt_image.specs.Listed.{is_listed, is_point, same_numbers}
-use Rattle.mb_pfu.specs.Calls.{last_of}
-use Rattle.mb_step.specs.Words.{is_barred}
 use Rattle.mb_step.specs.Tick.{base_of}
 use Rattle.tk_cert.specs.declared.cert.Line.{Line}
 use Rattle.tk_cert.specs.declared.cert.Line.TheVariants as line
 use Rattle.tk_cert.specs.declared.cert.CertParts.{CertParts}
-use Rattle.tk_cert.specs.Shapes.{IsShaped, IsCert}
-use Rattle.tk_cert.specs.Demands.{Demand, shape_demand, at_least, reaches, AllHold}
-use Rattle.tk_bound.specs.Sums.{Side, ToPause, ToEnd, plus, greater, or_zero, lowered, all_ends, most_paused, resumed_ends, resumed_paused, greatest}
+use Rattle.tk_cert.specs.Shapes.{IsShaped}
+use Rattle.tk_cert.specs.Demands.{Demand, shape_demand, AllHold}
+use Rattle.tk_bound.specs.Sums.{Side, ToPause, ToEnd, plus, greater, or_zero, resumed_ends, resumed_paused, greatest}
 use Rattle.tk_bound.specs.declared.word.Word.{Word}
-use Rattle.tk_bound.specs.declared.word.Word.TheVariants.{Does, Imm, Jump, Branch, Fork, Eot, End, Abrt, Leave, Call, Ret, Loop, Next, Drop, Cend}
+use Rattle.tk_bound.specs.declared.word.Word.TheVariants.{Fork}
 use Rattle.tk_bound.specs.Words.{word_of, instr_at, read_instr, read}
-use Rattle.tk_bound.specs.Kinds.{line_at, is_thread, is_cond, loops_of, is_inside, same_kind, upper_behind, upper_at, word_at, places_of, start_of, abort_at, points_at, place_in, places_of_abort, no_abort, asked_by_aborts, asked_by_word, asked_from_line, asked_from, asked, is_asked}
-use Rattle.tk_bound.specs.Shape.{weight_in, has_number, may_follow, in_thread, on_last, may_call, may_return, may_loop, keeps_kind, leads, children_start, word_is_shaped, aborts_are_shaped, says_well, line_is_shaped, pause_is_shaped, fork_is_shaped, place_is_shaped, tables_fit, shape, apart, is_pause_word, is_fork_word, children_in, children_at, meet, earlier, is_apart}
-use Rattle.tk_bound.specs.Acceptance.{View, On, Value, level_of, levels_of, stack_of, number_in, levels, views_of, more, number, value, weight, resumed, begins, weak_handlers, strong_handlers, conditions, edge, left_view, ending, closing, inner_weight, word_edges, line_edges, edges, pause_handlers, pause_at_level, word_pauses, pauses, fork_ends, fork_handlers, fork_at_level, word_forks, forks, resumes, resumed_strong, pause_resumes, resumed_handlers, resumed_join, has_resumed, fork_resumes, resuming, bounded, asks, on_side}
-use Rattle.tk_bound.specs.Machine.{Image}
-use Rattle.tk_bound.specs.Cert.{Cert, Bare, Thread, Routine, Cond, IsBare, Fits, seen, Pays, Reach, IsPlain, IsAt, AreAborts, ThreadIs, LoopsAre, InnerIs, Below, Views, Levels, with_loops, IsThreadFine}
-use Rattle.tk_bound.specs.Cert as kinds
-use Rattle.tk_bound.specs.Written.{Asks, EachWeak, EachStrong, PausesPay, ForksPay, IsFineWritten, StrongPay, IsPauseWritten, ForkResumes, HasResumed, IsForkWritten, IsAcceptedWritten}
-use Rattle.tk_bound.proofs.Lists.{IsAmong, Passing, any-passes, all-left, all-right, all-flat, all-map, among-range, all-passes, passes-any, index-among, three_parts, all-among}
-use Rattle.tk_bound.proofs.Accepts.{Accepts, Holding, among-left, among-right, among-flat, among-map, among-filter, asks-of, reach-of, turn-of, nothing, views-hold, levels-hold, thread-is, thread-fact, loops-are}
-use Rattle.tk_bound.proofs.Places.{IsSpoken, upper_of, spoken-of, I, C, at_line, shape-holds, apart-holds, edges-hold, pauses-hold, forks-hold, resuming-holds, bounded-holds, among-places, place-shaped, fit-parts, inside-spoken, place-parts, spoken-shaped, asked-plain, goal-plain, abort-plain, next-upper, shaped-at}
+use Rattle.tk_bound.specs.Kinds.{line_at, is_thread, is_cond, upper_at, word_at, places_of, start_of, abort_at, points_at, places_of_abort, no_abort, asked_by_aborts, asked_from}
+use Rattle.tk_bound.specs.Shape.{has_number, word_is_shaped, aborts_are_shaped, says_well, pause_is_shaped, fork_is_shaped, apart, is_pause_word, is_fork_word, children_in, children_at, meet, earlier, is_apart}
+use Rattle.tk_bound.specs.Acceptance.{On, number_in, views_of, more, number, value, resumed, begins, strong_handlers, conditions, word_edges, line_edges, word_pauses, word_forks, resumes, resumed_strong, pause_resumes, resumed_handlers, resumed_join, has_resumed, fork_resumes, on_side}
+use Rattle.tk_bound.proofs.Inner.{Image}
+use Rattle.tk_bound.proofs.Conditions.{Cert, Bare, Thread, Routine, IsBare, Pays, IsPlain, IsAt, AreAborts, IsThreadFine}
+use Rattle.tk_bound.proofs.BySums.{Asks, EachWeak, EachStrong, IsFineWritten, StrongPay, IsPauseWritten, ForkResumes, HasResumed, IsForkWritten, IsAcceptedWritten}
+use Rattle.tk_bound.proofs.Lists.{IsAmong, any-passes, all-left, all-right, all-flat, all-map, among-range, all-passes, passes-any, three_parts, all-among}
+use Rattle.tk_bound.proofs.Accepts.{Accepts, Holding, among-left, among-right, among-flat, among-map, among-filter, asks-of}
+use Rattle.tk_bound.proofs.Places.{IsSpoken, spoken-of, I, C, apart-holds, edges-hold, pauses-hold, forks-hold, resuming-holds, bounded-holds, among-places, fit-parts, inside-spoken, place-parts, spoken-shaped, asked-plain, abort-plain, shaped-at}
 use Rattle.tk_bound.proofs.Fine.{some-there, weak-each, both, Here, fine}
-use Rattle.tk_bound.proofs.Carried.{short, kind_of, image_of, cert_of, same-list, lt-true, le-true, le-test, short-is, thread-kind, routine-kind, cond-kind, same-kind, IsLooping, inside-kind, reverse-last, last-is}
-
-
-
+use Rattle.tk_bound.proofs.Carried.{kind_of, same-list, lt-true, le-true, thread-kind, cond-kind}
 
 level-some : (v : List (Option ℕ × Option ℕ)) (k : ℕ) → k < length v → list_all has_number v ≡ true → (side : Side) × (n : ℕ) × (on_side side (slice_get v k) ≡ Some n)
 level-some [] k h t = absurd (omega (arith, h))
@@ -111,6 +102,7 @@ greatest-least (o ∷ l) n h = ⊎_elim (λ e. first o e) (λ e. later o (greate
     first : (p : Option ℕ) → p ≡ Some n → n ≤ or_zero (greater p (Some (greatest l)))
     first None e = absurd (none-some n e)
     first (Some m) e = let s : m ≡ n = same_Some m n e in grind (arith, nat_tests, s)
+
     later : (p : Option ℕ) → n ≤ greatest l → n ≤ or_zero (greater p (Some (greatest l)))
     later None e = e
     later (Some m) e = grind (arith, nat_tests, e)
@@ -209,9 +201,10 @@ module _ (image : Parts) (cert : CertParts) (costs : List ℕ) (a : Accepts imag
       let w = (abort_at image j).weak in
       let handler = (abort_at image j).handler in
       let more = sum + value image cert costs ((abort_at image j).cond) in
-      let A : Bool → Type 0 = λ x. AllHold (if x then [] else f more i handler) in
-      (λ e. each more i handler (subst A e (all-left Holding (if w then [] else f more i handler) (strong_handlers image cert costs f more (i + 1) b) h)),
-      strong-each f P each more (i + 1) b (all-right Holding (if w then [] else f more i handler) (strong_handlers image cert costs f more (i + 1) b) h))
+      let A : Bool → Type 0 = λ x. AllHold (if x then [] else f more i handler) in (
+        λ e. each more i handler (subst A e (all-left Holding (if w then [] else f more i handler) (strong_handlers image cert costs f more (i + 1) b) h)),
+        strong-each f P each more (i + 1) b (all-right Holding (if w then [] else f more i handler) (strong_handlers image cert costs f more (i + 1) b) h),
+      )
 
   strong-pay : (p : Point) (side : Side) → AllHold (resumed_strong image cert costs p side) → StrongPay E D p.slot p.stack side
   strong-pay p side h =
@@ -292,6 +285,7 @@ module _ (image : Parts) (cert : CertParts) (costs : List ℕ) (a : Accepts imag
       or-true : (x : Bool) → x || true ≡ true
       or-true true = refl
       or-true false = refl
+
       by : (side : Side) → D.resumed side h.0 ≡ Some h.2 → is_some (resumed image cert costs ToPause h.0) || is_some (resumed image cert costs ToEnd h.0) ≡ true
       by ToPause e = ap (λ o. is_some o || is_some (resumed image cert costs ToEnd h.0)) e
       by ToEnd e = ap (λ o. is_some (resumed image cert costs ToPause h.0) || is_some o) e ∙ or-true (is_some (resumed image cert costs ToPause h.0))

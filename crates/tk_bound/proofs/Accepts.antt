@@ -1,40 +1,23 @@
 -- What the demands say of each place: the conditions of which the bound is proved.
-use Rattle.std.proofs.Common.{◌≡◌, ◌≤◌, ◌<◌, ◌+◌, ◌*◌, ◌-◌, ◌&&◌, ◌||◌, ◌==◌, ◌⊎◌, min, ℕ, ℤ, zero, suc, Bool, true, false, not, nat_le, nat_lt, if◌then◌else◌, List, [], ◌∷◌, ◌++◌, map, filter, flat_map, reverse, length, slice_get, is_some, Option, Some, None, refl, sym, ap, ◌∙◌, subst, inl, inr, ⊎_elim, arith, eqb-true, eq-eqb, add-one}
-use Rattle.std.proofs.lemmas.Bool.{and_parts, or_cases, false≢true, both_ways, not-true, cases_lt}
-use Rattle.std.proofs.lemmas.Bool.Decides.{nat_tests}
-use Rattle.std.proofs.lemmas.List.{length-reverse, get_or_past}
-use Rattle.std.proofs.lemmas.Option.{none-some, same_Some}
-use Rattle.std.specs.List.{AllByRecursion, list_all, list_any, range_with_len}
-use Rattle.mb_isa.specs.declared.Instr.{Instr}
-use Rattle.mb_isa.specs.declared.Instr.TheVariants as instr
-use Rattle.mb_isa.specs.declared.Class.{Class}
-use Rattle.mb_isa.specs.declared.Class.TheVariants as class
-use Rattle.mb_isa.specs.Costs.{cost_of}
-use Rattle.pt_image.specs.declared.Point.{Point}
+use Rattle.std.proofs.Common.{◌≡◌, ◌≤◌, ◌+◌, ◌-◌, ◌==◌, ℕ, Bool, true, false, if◌then◌else◌, List, [], ◌∷◌, ◌++◌, map, filter, flat_map, reverse, length, Option, Some, None, refl, sym, ap, ◌∙◌, subst, inl, inr, ⊎_elim, arith, eqb-true}
+use Rattle.std.proofs.lemmas.Bool.{and_parts, false≢true, both_ways}
+use Rattle.std.specs.List.{range_with_len}
 use Rattle.pt_image.specs.declared.Parts.{Parts}
 use Rattle.pt_image.specs.Ranges.{IsImage}
-use Rattle.pt_image.specs.Listed.{is_listed, is_point, same_numbers}
-use Rattle.mb_pfu.specs.Calls.{last_of}
-use Rattle.mb_step.specs.Words.{is_barred}
-use Rattle.mb_step.specs.Tick.{base_of}
 use Rattle.tk_cert.specs.declared.cert.Line.{Line}
 use Rattle.tk_cert.specs.declared.cert.Line.TheVariants as line
 use Rattle.tk_cert.specs.declared.cert.CertParts.{CertParts}
 use Rattle.tk_cert.specs.Shapes.{IsShaped, IsCert}
-use Rattle.tk_cert.specs.Demands.{Demand, shape_demand, at_least, reaches, AllHold}
-use Rattle.tk_bound.specs.Sums.{Side, ToPause, ToEnd, plus, greater, or_zero, lowered, all_ends, most_paused, greatest}
-use Rattle.tk_bound.specs.declared.word.Word.{Word}
-use Rattle.tk_bound.specs.declared.word.Word.TheVariants.{Does, Imm, Jump, Branch, Fork, Eot, End, Abrt, Leave, Call, Ret, Loop, Next, Drop, Cend}
-use Rattle.tk_bound.specs.Words.{word_of, instr_at, read_instr, read}
-use Rattle.tk_bound.specs.Kinds.{line_at, is_thread, is_cond, loops_of, is_inside, same_kind, upper_behind, upper_at, word_at, places_of, start_of, abort_at, points_at, place_in, asked_by_aborts, asked_by_word, asked_from_line, asked_from, asked, is_asked}
-use Rattle.tk_bound.specs.Shape.{weight_in, has_number, may_follow, in_thread, on_last, may_call, may_return, may_loop, keeps_kind, leads, children_start, word_is_shaped, aborts_are_shaped, says_well, line_is_shaped, pause_is_shaped, fork_is_shaped, place_is_shaped, tables_fit, shape, apart, is_pause_word, is_fork_word}
-use Rattle.tk_bound.specs.Acceptance.{View, On, Value, level_of, levels_of, stack_of, number_in, levels, views_of, more, number, value, weight, resumed, begins, weak_handlers, strong_handlers, conditions, edge, left_view, ending, closing, inner_weight, word_edges, line_edges, edges, pause_handlers, pause_at_level, word_pauses, pauses, fork_ends, fork_handlers, fork_at_level, word_forks, forks, resuming, bounded, asks}
-use Rattle.tk_bound.specs.Machine.{Image}
-use Rattle.tk_bound.specs.Cert.{Cert, Bare, Thread, Routine, Cond, IsBare, Fits, seen, Pays, Reach, IsPlain, IsAt, AreAborts, ThreadIs, LoopsAre, InnerIs, Below, Views, Levels, with_loops, IsThreadFine}
-use Rattle.tk_bound.specs.Cert as kinds
-use Rattle.tk_bound.specs.Written.{Asks, EachWeak, PausesPay, ForksPay, IsFineWritten}
-use Rattle.tk_bound.proofs.Lists.{IsAmong, all-left, all-right, all-flat, all-map, among-range, all-passes, passes-any, index-among, three_parts, all-among}
-use Rattle.tk_bound.proofs.Carried.{short, kind_of, image_of, cert_of, same-list, lt-true, le-true, le-test, short-is, thread-kind, routine-kind, cond-kind, same-kind, IsLooping, inside-kind, reverse-last, last-is}
+use Rattle.tk_cert.specs.Demands.{Demand, at_least, AllHold}
+use Rattle.tk_bound.specs.Sums.{ToPause, ToEnd, plus, lowered}
+use Rattle.tk_bound.specs.Kinds.{loops_of}
+use Rattle.tk_bound.specs.Shape.{in_thread}
+use Rattle.tk_bound.specs.Acceptance.{View, On, Value, levels_of, stack_of, levels, views_of, more, asks}
+use Rattle.tk_bound.proofs.Conditions.{Cert, Bare, Thread, Routine, Cond, IsBare, Fits, seen, Pays, Reach, IsPlain, IsAt, AreAborts, ThreadIs, LoopsAre, InnerIs, Below, Views, Levels, with_loops, IsThreadFine}
+use Rattle.tk_bound.proofs.Conditions as kinds
+use Rattle.tk_bound.proofs.BySums.{Asks}
+use Rattle.tk_bound.proofs.Lists.{IsAmong, among-range}
+use Rattle.tk_bound.proofs.Carried.{kind_of, image_of, cert_of, le-true, short-is, IsLooping}
 
 -- an image and a certificate of which all demands hold
 pub record Accepts (image : Parts) (cert : CertParts) (costs : List ℕ) : Type 0 where

@@ -5,12 +5,12 @@ use Rattle.std.proofs.lemmas.Option.{none-some, same_Some}
 use Rattle.mb_pfu.specs.declared.parts.Watch.{Watch}
 use Rattle.mb_pfu.specs.Tree.{Running, Pausing, Finished, Tree, Group, Leaf, Waits, no_more, member, size, has_ended, all_ended, each_member, tests_begun}
 use Rattle.mb_pfu.specs.Rows.{renewed, or_else}
-use Rattle.tk_bound.specs.Slots.{first_cond, next_cond, next_cond_among}
+use Rattle.tk_bound.proofs.Slots.{first_cond, next_cond, next_cond_among}
 use Rattle.tk_bound.specs.declared.word.Word.{Word}
 use Rattle.tk_bound.specs.declared.word.Word.TheVariants.{Fork}
-use Rattle.tk_bound.specs.Machine.{Image, stack, AreListed, IsLoose, AreLoose}
+use Rattle.tk_bound.proofs.Inner.{Image, stack, AreListed, IsLoose, AreLoose}
 use Rattle.tk_bound.specs.Sums.{Side, ToPause, ToEnd}
-use Rattle.tk_bound.specs.Cert.{Cert, Thread, Cond, both_sides, After, IsAt, AreAborts, Tested, Ends, Over, With, both_ends, Resumes, Resumed, IsAccepted}
+use Rattle.tk_bound.proofs.Conditions.{Cert, Thread, Cond, both_sides, After, IsAt, AreAborts, Tested, Ends, Over, With, both_ends, Resumes, Resumed, IsAccepted}
 use Rattle.tk_bound.proofs.Values.{Dom, Val, GVal}
 use Rattle.tk_bound.proofs.Rights.{old-is, old-within, IsRight, AreRight}
 use Rattle.tk_bound.proofs.Settles.{thread-of}

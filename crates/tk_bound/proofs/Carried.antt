@@ -1,9 +1,9 @@
 -- An image and a certificate as the proofs of the bound see them: their words, kinds and numbers.
-use Rattle.std.proofs.Common.{◌≡◌, ◌≤◌, ◌<◌, ◌+◌, ◌&&◌, ◌==◌, ℕ, ℤ, zero, suc, Bool, true, false, nat_le, nat_lt, if◌then◌else◌, List, [], ◌∷◌, ◌++◌, reverse, length, Option, Some, None, refl, sym, ap, ◌∙◌, subst, arith, eqb-true}
+use Rattle.std.proofs.Common.{◌≡◌, ◌≤◌, ◌<◌, ◌==◌, ℕ, true, nat_le, nat_lt, if◌then◌else◌, List, [], ◌∷◌, ◌++◌, reverse, length, Option, Some, None, refl, sym, ap, ◌∙◌, subst, arith, eqb-true}
 use Rattle.std.proofs.lemmas.Bool.{and_parts, false≢true}
 use Rattle.std.proofs.lemmas.Bool.Decides.{nat_tests}
 use Rattle.std.proofs.lemmas.Option.{same_Some}
-use Rattle.std.proofs.lemmas.List.{length-reverse, reverse-append}
+use Rattle.std.proofs.lemmas.List.{reverse-append}
 use Rattle.mb_isa.specs.Costs.{cost_of}
 use Rattle.pt_image.specs.declared.Parts.{Parts}
 use Rattle.pt_image.specs.Listed.{is_listed, same_numbers}
@@ -12,14 +12,13 @@ use Rattle.mb_step.specs.Tick.{base_of}
 use Rattle.tk_cert.specs.declared.cert.Line.{Line}
 use Rattle.tk_cert.specs.declared.cert.Line.TheVariants as line
 use Rattle.tk_cert.specs.declared.cert.CertParts.{CertParts}
-use Rattle.tk_bound.specs.declared.word.Word.{Word}
 use Rattle.tk_bound.specs.Words.{read}
 use Rattle.tk_bound.specs.Kinds.{line_at, is_thread, is_routine, is_cond, loops_of, is_inside, same_kind, upper_at, start_of, abort_at}
 use Rattle.tk_bound.specs.Shape.{weight_in}
 use Rattle.tk_bound.specs.Acceptance.{On, number, value, resumed}
-use Rattle.tk_bound.specs.Machine.{Image}
-use Rattle.tk_bound.specs.Cert.{Cert, Bare, Thread, Routine, Cond, with_loops}
-use Rattle.tk_bound.specs.Cert as kinds
+use Rattle.tk_bound.proofs.Inner.{Image}
+use Rattle.tk_bound.proofs.Conditions.{Cert, Bare, Thread, Routine, Cond, with_loops}
+use Rattle.tk_bound.proofs.Conditions as kinds
 use Rattle.tk_bound.proofs.Lists.{three_parts}
 
 -- a line inside more than eight loops is one that no word leads to

@@ -1,11 +1,7 @@
 -- Good controls: where acceptance holds each step of one leads to another, and its charge is paid.
-use Rattle.std.proofs.Common.{◌≡◌, ◌⊎◌, ◌≤◌, ◌<◌, ◌+◌, ◌==◌, ◌||◌, ℕ, ℤ, zero, suc, Bool, true, false, not, nat_le, nat_lt, if◌then◌else◌, List, [], ◌∷◌, ◌++◌, map, take, drop, reverse, length, is_some, Option, Some, None, option_map, refl, sym, ap, ◌∙◌, subst, inl, inr, ⊎_elim, arith, eqb-true, add-one}
-use Rattle.std.proofs.lemmas.Bool.{false≢true, both_ways}
+use Rattle.std.proofs.Common.{◌≡◌, ◌+◌, ℕ, ℤ, Bool, true, false, List, [], reverse, length, is_some, Option, Some, None, option_map, refl, sym, ap, ◌∙◌, subst, ⊎_elim, arith}
+use Rattle.std.proofs.lemmas.Bool.{false≢true}
 use Rattle.std.proofs.lemmas.Option.{none-some, same_Some}
-use Rattle.std.proofs.lemmas.List.{length-reverse, reverse-reverse}
-use Rattle.mb_isa.specs.declared.Reg.{Reg}
-use Rattle.mb_isa.specs.declared.Instr.{Instr}
-use Rattle.mb_isa.specs.declared.Class.{Class}
 use Rattle.mb_isa.specs.declared.Class.TheVariants as class
 use Rattle.mb_isa.specs.Classes.{class_of}
 use Rattle.mb_isa.specs.Costs.{cost_of}
@@ -13,9 +9,8 @@ use Rattle.pt_image.specs.declared.Parts.{Parts}
 use Rattle.mb_pfu.specs.declared.parts.Watch.{Watch}
 use Rattle.mb_pfu.specs.declared.parts.Slot.{Slot}
 use Rattle.mb_pfu.specs.declared.parts.Slot.TheVariants.{Ready}
-use Rattle.mb_pfu.specs.Rows.{Report, ready, due, first_due, reported_test}
+use Rattle.mb_pfu.specs.Rows.{ready, due, first_due, reported_test}
 use Rattle.mb_pfu.specs.Tree.{Running, Tree, Leaf, has_ready, all_woken, report, reported_number, reported_watches, slot_of, watches_of, next_job, next_test}
-use Rattle.mb_pfu.specs.Tree as tree
 use Rattle.mb_pfu.specs.Contexts.{Context, plug, IsQuietBefore}
 use Rattle.mb_pfu.specs.Contexts as contexts
 use Rattle.mb_pfu.specs.Unit as unit
@@ -29,17 +24,16 @@ use Rattle.mb_step.specs.Control.{Control, start_in, turns_from, turns_on, wakes
 use Rattle.mb_step.specs.Words as plans
 use Rattle.mb_step.specs.Words.{Plan, Rest, Refuse, Go, Work, Conclude}
 use Rattle.tk_cert.specs.declared.cert.CertParts.{CertParts}
-use Rattle.tk_bound.specs.Slots.{next_cond}
-use Rattle.tk_bound.specs.Machine.{Image, State, Phase, IsSound, test_next, test_at, turn_at}
-use Rattle.tk_bound.specs.Machine as machine
-use Rattle.tk_bound.specs.Cert.{Cert, IsAccepted}
-use Rattle.tk_bound.specs.Words.{read}
-use Rattle.tk_bound.proofs.Firsts.{Job, job}
+use Rattle.tk_bound.proofs.Slots.{next_cond}
+use Rattle.tk_bound.proofs.Inner.{Image, State, Phase, IsSound, test_next, test_at, turn_at}
+use Rattle.tk_bound.proofs.Inner as machine
+use Rattle.tk_bound.proofs.Conditions.{Cert, IsAccepted}
+use Rattle.tk_bound.proofs.Firsts.{job}
 use Rattle.tk_bound.proofs.Finds.{turn_of}
 use Rattle.tk_bound.proofs.Rests.{plug-ready}
 use Rattle.tk_bound.proofs.Steps.{IsRunning, IsCalm, IsTurned, turn-running}
 use Rattle.tk_bound.proofs.Whole.{IsTested, IsInTest, IsOutKept, step-kept}
-use Rattle.tk_bound.proofs.Written.{accepted_by_sums}
+use Rattle.tk_bound.proofs.Sums.{accepted_by_sums}
 use Rattle.tk_bound.proofs.Carried.{image_of, cert_of}
 use Rattle.tk_bound.proofs.Accepts.{Accepts}
 use Rattle.tk_bound.proofs.Accepted.{accepted}

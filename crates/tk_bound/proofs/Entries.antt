@@ -3,12 +3,12 @@ use Rattle.std.proofs.Common.{◌≡◌, ◌≤◌, ◌<◌, ◌+◌, ◌++◌, 
 use Rattle.mb_pfu.specs.declared.parts.Watch.{Watch}
 use Rattle.mb_pfu.specs.Tree.{Finished, Tree, Group, Leaf, no_more, member, size, has_ended, all_ended, append_group}
 use Rattle.mb_pfu.specs.Contexts.{filled, Context, plug}
-use Rattle.tk_bound.specs.Slots.{middle, without_last}
+use Rattle.tk_bound.proofs.Slots.{middle, without_last}
 use Rattle.mb_pfu.specs.Unit.{fresh}
 use Rattle.mb_pfu.specs.Rows.{with_last}
-use Rattle.tk_bound.specs.Machine.{Image, stack, begun}
+use Rattle.tk_bound.proofs.Inner.{Image, stack, begun}
 use Rattle.tk_bound.specs.Sums.{Side}
-use Rattle.tk_bound.specs.Cert.{Cert, Thread, IsAt, Sum, Starts}
+use Rattle.tk_bound.proofs.Conditions.{Cert, Thread, IsAt, Sum, Starts}
 use Rattle.tk_bound.proofs.Values.{GVal}
 use Rattle.tk_bound.proofs.Rights.{AreNew, AreOld, IsWaiting, IsRight, AreRight, IsContextRight, size-same, join-right}
 

@@ -4,7 +4,7 @@ use Rattle.std.proofs.lemmas.Bool.{false≢true}
 use Rattle.mb_pfu.specs.declared.parts.Watch.{Watch}
 use Rattle.mb_pfu.specs.Tree.{Running, Pausing, Finished, Tree, Group, Leaf, Waits, no_more, member, has_ready, any_ready, append_group}
 use Rattle.mb_pfu.specs.Contexts.{Context, plug, IsQuietBefore}
-use Rattle.tk_bound.specs.Machine.{Image, Turn}
+use Rattle.tk_bound.proofs.Inner.{Image, Turn}
 use Rattle.tk_bound.proofs.Firsts.{framed, append-one}
 
 module _ (image : Image) where

@@ -1,44 +1,35 @@
 -- What acceptance says of a place, by its word.
-use Rattle.std.proofs.Common.{◌≡◌, ◌≤◌, ◌<◌, ◌+◌, ◌*◌, ◌-◌, ◌&&◌, ◌||◌, ◌==◌, ◌⊎◌, min, ℕ, ℤ, zero, suc, Bool, true, false, not, nat_le, nat_lt, if◌then◌else◌, List, [], ◌∷◌, ◌++◌, map, filter, flat_map, reverse, length, slice_get, slice_index_or, is_some, Option, Some, None, refl, sym, ap, ◌∙◌, subst, inl, inr, ⊎_elim, arith, eqb-true, eq-eqb, add-one}
-use Rattle.std.proofs.lemmas.Bool.{and_parts, or_cases, false≢true, both_ways, not-true, cases_lt}
-use Rattle.std.proofs.lemmas.Bool.Decides.{nat_tests}
-use Rattle.std.proofs.lemmas.List.{length-reverse, get_or_past}
+use Rattle.std.proofs.Common.{◌≡◌, ◌≤◌, ◌<◌, ◌+◌, ◌*◌, ◌-◌, ◌&&◌, ◌==◌, min, ℕ, ℤ, zero, suc, Bool, true, false, not, nat_le, nat_lt, if◌then◌else◌, List, [], ◌∷◌, ◌++◌, reverse, length, slice_get, slice_index_or, is_some, Option, Some, None, refl, sym, ap, ◌∙◌, subst, inl, arith, eqb-true}
+use Rattle.std.proofs.lemmas.Bool.{and_parts, false≢true}
+use Rattle.std.proofs.lemmas.List.{length-reverse}
 use Rattle.std.proofs.lemmas.Option.{none-some, same_Some}
-use Rattle.std.specs.List.{AllByRecursion, list_all, list_any, range_with_len}
-use Rattle.mb_isa.specs.declared.Instr.{Instr}
-use Rattle.mb_isa.specs.declared.Instr.TheVariants as instr
+use Rattle.std.specs.List.{range_with_len}
 use Rattle.mb_isa.specs.declared.Class.{Class}
 use Rattle.mb_isa.specs.declared.Class.TheVariants as class
 use Rattle.mb_isa.specs.Costs.{cost_of}
-use Rattle.pt_image.specs.declared.Point.{Point}
 use Rattle.pt_image.specs.declared.Parts.{Parts}
-use Rattle.pt_image.specs.Ranges.{IsImage}
-use Rattle.pt_image.specs.Listed.{is_listed, is_point, same_numbers}
+use Rattle.pt_image.specs.Listed.{is_listed}
 use Rattle.mb_pfu.specs.Calls.{last_of}
-use Rattle.mb_step.specs.Words.{is_barred}
-use Rattle.mb_step.specs.Tick.{base_of}
 use Rattle.tk_cert.specs.declared.cert.Line.{Line}
 use Rattle.tk_cert.specs.declared.cert.Line.TheVariants as line
 use Rattle.tk_cert.specs.declared.cert.CertParts.{CertParts}
-use Rattle.tk_cert.specs.Shapes.{IsShaped, IsCert}
-use Rattle.tk_cert.specs.Demands.{Demand, shape_demand, at_least, reaches, AllHold}
-use Rattle.tk_bound.specs.Sums.{Side, ToPause, ToEnd, plus, greater, or_zero, lowered, all_ends, most_paused, greatest}
+use Rattle.tk_cert.specs.Shapes.{IsShaped}
+use Rattle.tk_cert.specs.Demands.{Demand, at_least, AllHold}
+use Rattle.tk_bound.specs.Sums.{Side, ToPause, ToEnd, plus, or_zero, lowered, all_ends, most_paused}
 use Rattle.tk_bound.specs.declared.word.Word.{Word}
 use Rattle.tk_bound.specs.declared.word.Word.TheVariants.{Does, Imm, Jump, Branch, Fork, Eot, End, Abrt, Leave, Call, Ret, Loop, Next, Drop, Cend}
-use Rattle.tk_bound.specs.Words.{word_of, instr_at, read_instr, read}
-use Rattle.tk_bound.specs.Kinds.{line_at, is_thread, is_cond, loops_of, is_inside, same_kind, upper_behind, upper_at, word_at, places_of, start_of, abort_at, points_at, place_in, asked_by_aborts, asked_by_word, asked_from_line, asked_from, asked, is_asked}
-use Rattle.tk_bound.specs.Shape.{weight_in, has_number, may_follow, in_thread, on_last, may_call, may_return, may_loop, keeps_kind, leads, children_start, word_is_shaped, aborts_are_shaped, says_well, line_is_shaped, pause_is_shaped, fork_is_shaped, place_is_shaped, tables_fit, shape, apart, is_pause_word, is_fork_word}
-use Rattle.tk_bound.specs.Acceptance.{View, On, Value, level_of, levels_of, stack_of, number_in, levels, views_of, more, number, value, weight, resumed, begins, weak_handlers, strong_handlers, conditions, edge, left_view, ending, closing, inner_weight, word_edges, line_edges, edges, pause_handlers, pause_at_level, word_pauses, pauses, fork_ends, fork_handlers, fork_at_level, word_forks, forks, resuming, bounded, asks}
-use Rattle.tk_bound.specs.Machine.{Image}
-use Rattle.tk_bound.specs.Cert.{Cert, Bare, Thread, Routine, Cond, IsBare, Fits, seen, Pays, Reach, IsPlain, IsAt, AreAborts, ThreadIs, LoopsAre, InnerIs, Below, Views, Levels, with_loops, IsThreadFine}
-use Rattle.tk_bound.specs.Cert as kinds
-use Rattle.tk_bound.specs.Written.{Asks, EachWeak, PausesPay, ForksPay, IsFineWritten}
-use Rattle.tk_bound.proofs.Lists.{IsAmong, all-left, all-right, all-flat, all-map, among-range, all-passes, passes-any, index-among, three_parts, all-among}
-use Rattle.tk_bound.proofs.Accepts.{Accepts, Holding, among-left, among-right, among-flat, among-map, among-filter, asks-of, reach-of, turn-of, nothing, views-hold, levels-hold, thread-is, thread-fact, loops-are}
-use Rattle.tk_bound.proofs.Places.{IsSpoken, upper_of, spoken-of, I, C, at_line, shape-holds, apart-holds, edges-hold, pauses-hold, forks-hold, resuming-holds, bounded-holds, among-places, place-shaped, fit-parts, inside-spoken, place-parts, spoken-shaped, asked-plain, goal-plain, abort-plain, next-upper, shaped-at}
-use Rattle.tk_bound.proofs.Carried.{short, kind_of, image_of, cert_of, same-list, lt-true, le-true, le-test, short-is, thread-kind, routine-kind, cond-kind, same-kind, IsLooping, inside-kind, reverse-last, last-is}
-
-
+use Rattle.tk_bound.specs.Words.{instr_at}
+use Rattle.tk_bound.specs.Kinds.{line_at, is_thread, is_cond, loops_of, is_inside, upper_at, word_at, start_of, abort_at, place_in, asked_by_word, is_asked}
+use Rattle.tk_bound.specs.Shape.{weight_in, may_follow, on_last, may_call, may_return, may_loop, keeps_kind, children_start, word_is_shaped}
+use Rattle.tk_bound.specs.Acceptance.{View, On, Value, level_of, stack_of, levels, views_of, more, number, value, weight, begins, weak_handlers, edge, closing, inner_weight, word_edges, pause_handlers, pause_at_level, word_pauses, fork_ends, fork_handlers, fork_at_level, word_forks}
+use Rattle.tk_bound.proofs.Inner.{Image}
+use Rattle.tk_bound.proofs.Conditions.{Cert, Bare, Thread, Routine, Cond, IsBare, Fits, seen, Pays, Reach, IsPlain, IsAt, AreAborts, ThreadIs, LoopsAre, InnerIs, Below, Views, Levels, with_loops, IsThreadFine}
+use Rattle.tk_bound.proofs.Conditions as kinds
+use Rattle.tk_bound.proofs.BySums.{Asks, EachWeak, PausesPay, ForksPay, IsFineWritten}
+use Rattle.tk_bound.proofs.Lists.{IsAmong, all-left, all-right, all-flat, among-range, all-passes, three_parts}
+use Rattle.tk_bound.proofs.Accepts.{Accepts, Holding, among-flat, asks-of, reach-of, turn-of, nothing, views-hold, levels-hold, thread-is, thread-fact, loops-are}
+use Rattle.tk_bound.proofs.Places.{IsSpoken, upper_of, I, C, goal-plain, next-upper, shaped-at}
+use Rattle.tk_bound.proofs.Carried.{short, kind_of, lt-true, le-true, short-is, thread-kind, cond-kind, same-kind, IsLooping, inside-kind, reverse-last, last-is}
 
 looping-loop : (line : Line) → may_loop line ≡ true → IsLooping line
 looping-loop line.Bare h = absurd (false≢true h)
@@ -128,9 +119,10 @@ module _ (image : Parts) (cert : CertParts) (costs : List ℕ) (a : Accepts imag
   weak-each f P each i (j ∷ b) (suc k) h =
       let w = (abort_at image j).weak in
       let handler = (abort_at image j).handler in
-      let A : Bool → Type 0 = λ x. AllHold (if x then f i handler else []) in
-      (λ e. each i handler (subst A e (all-left Holding (if w then f i handler else []) (weak_handlers image cert costs f (i + 1) b k) h)),
-      weak-each f P each (i + 1) b k (all-right Holding (if w then f i handler else []) (weak_handlers image cert costs f (i + 1) b k) h))
+      let A : Bool → Type 0 = λ x. AllHold (if x then f i handler else []) in (
+        λ e. each i handler (subst A e (all-left Holding (if w then f i handler else []) (weak_handlers image cert costs f (i + 1) b k) h)),
+        weak-each f P each (i + 1) b k (all-right Holding (if w then f i handler else []) (weak_handlers image cert costs f (i + 1) b k) h),
+      )
 
   pause-handlers-pay : (place : ℕ) (b : List ℕ) (k : ℕ) (side : Side) → AllHold (pause_handlers image cert costs place b k side) →
       EachWeak E D (λ i h. Asks (D.number side k place) (plus (Some (E.cost class.Eot)) (D.number side i h))) 0 b k
@@ -261,12 +253,12 @@ module _ (image : Parts) (cert : CertParts) (costs : List ℕ) (a : Accepts imag
         let q = and_parts (is_listed image.pauses place t.0 t.1) (keeps_kind image cert line (place + 1)) t.2 in (
           at-next Eot x refl q.1,
           thread-is image cert costs _ line f x.shaped x.stands
-          (λ s b e n kind h. (
-            (and_parts (is_listed image.pauses place s b) (keeps_kind image cert line (place + 1)) h).0,
-            levels-hold image cert costs _ line b n
-            (λ k among. pause-pays place b k
-            (let A : List ℕ → Type 0 = λ y. AllHold (pause_at_level image cert costs place y k) in subst A e (all-flat Holding (pause_at_level image cert costs place (stack_of line)) (levels line) k x.paused among))),
-          )),
+              (λ s b e n kind h. (
+                (and_parts (is_listed image.pauses place s b) (keeps_kind image cert line (place + 1)) h).0,
+                levels-hold image cert costs _ line b n
+                    (λ k among. pause-pays place b k
+                    (let A : List ℕ → Type 0 = λ y. AllHold (pause_at_level image cert costs place y k) in subst A e (all-flat Holding (pause_at_level image cert costs place (stack_of line)) (levels line) k x.paused among))),
+              )),
         )
 
     fine-fork : (lo n : ℕ) → Here place line (Fork lo n) → IsFineWritten E D place (kind_of line) (Fork lo n)
@@ -279,18 +271,18 @@ module _ (image : Parts) (cert : CertParts) (costs : List ℕ) (a : Accepts imag
         let q = six_parts (is_listed image.forks place t.0 t.1) (nat_lt t.0 lo) (nat_lt 0 n) (nat_le (lo + n) (length image.slots)) starts keeps t.2 in (
           at-next w x refl q.5,
           thread-is image cert costs _ line f x.shaped x.stands
-          (λ s b e m kind h.
-          let p = six_parts (is_listed image.forks place s b) (nat_lt s lo) (nat_lt 0 n) (nat_le (lo + n) (length image.slots)) starts keeps h in
-          let room = le-true (lo + n) (length image.slots) p.3 in (
-            p.0,
-            lt-true s lo p.1,
-            (let z = lt-true 0 n p.2 in omega (arith, z)),
-            room,
-            λ c low high. child c low high room p.4,
-            levels-hold image cert costs _ line b m
-            (λ k among. fork-pays place lo n b k
-            (let A : List ℕ → Type 0 = λ y. AllHold (fork_at_level image cert costs place y lo n k) in subst A e (all-flat Holding (fork_at_level image cert costs place (stack_of line) lo n) (levels line) k x.forked among))),
-          )),
+              (λ s b e m kind h.
+              let p = six_parts (is_listed image.forks place s b) (nat_lt s lo) (nat_lt 0 n) (nat_le (lo + n) (length image.slots)) starts keeps h in
+              let room = le-true (lo + n) (length image.slots) p.3 in (
+                p.0,
+                lt-true s lo p.1,
+                (let z = lt-true 0 n p.2 in omega (arith, z)),
+                room,
+                λ c low high. child c low high room p.4,
+                levels-hold image cert costs _ line b m
+                    (λ k among. fork-pays place lo n b k
+                    (let A : List ℕ → Type 0 = λ y. AllHold (fork_at_level image cert costs place y lo n k) in subst A e (all-flat Holding (fork_at_level image cert costs place (stack_of line) lo n) (levels line) k x.forked among))),
+              )),
         )
       where
         start-there : (slots : List ℕ) (c : ℕ) → c < length slots → (p : ℕ) × (slice_get slots c ≡ Some p) × (slice_index_or slots c 0 ≡ p)
@@ -306,7 +298,7 @@ module _ (image : Parts) (cert : CertParts) (costs : List ℕ) (a : Accepts imag
             let U : ℕ → Type 0 = λ p. upper_at image cert.lines p ≡ None in (
               thread-kind (line_at cert.lines (start_of image c)) c [] [] kind (omega arith),
               subst U (sym s.2)
-              (goal (Fork lo n) x s.0 (among-flat (λ z. place_in (slice_get image.slots z)) c s.0 (range_with_len lo n) (among-range lo n c low high) (subst A (sym s.1) (inl refl)))),
+                  (goal (Fork lo n) x s.0 (among-flat (λ z. place_in (slice_get image.slots z)) c s.0 (range_with_len lo n) (among-range lo n c low high) (subst A (sym s.1) (inl refl)))),
             )
 
     fine-end : Here place line End → IsFineWritten E D place (kind_of line) End

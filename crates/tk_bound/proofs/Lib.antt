@@ -1,3 +1,7 @@
+pub mod Slots
+pub mod Inner
+pub mod Conditions
+pub mod BySums
 pub mod Values
 pub mod Rights
 pub mod Settles
@@ -10,7 +14,7 @@ pub mod Tests
 pub mod Begins
 pub mod Rests
 pub mod Whole
-pub mod Written
+pub mod Sums
 pub mod Finds
 pub mod Lists
 pub mod Carried
@@ -18,7 +22,7 @@ pub mod Accepts
 pub mod Places
 pub mod Fine
 pub mod Accepted
-pub mod Landed
+pub mod Tested
 pub mod Turns
 pub mod Controls
 pub mod Turned

@@ -4,8 +4,8 @@ use Rattle.std.proofs.lemmas.Bool.{false≢true}
 use Rattle.mb_pfu.specs.declared.parts.Watch.{Watch}
 use Rattle.mb_pfu.specs.Tree.{Running, Pausing, Finished, Tree, Group, Leaf, Waits, no_more, member, has_ready, any_ready, append_group}
 use Rattle.mb_pfu.specs.Contexts.{filled, Context, plug}
-use Rattle.tk_bound.specs.Machine.{Image, AreListed, IsLoose, AreLoose, IsConfiguration, loose}
-use Rattle.tk_bound.specs.Cert.{Cert}
+use Rattle.tk_bound.proofs.Inner.{Image, AreListed, IsLoose, AreLoose, IsConfiguration, loose}
+use Rattle.tk_bound.proofs.Conditions.{Cert}
 use Rattle.tk_bound.proofs.Rights.{AreNew, AreOld, IsRight, AreRight}
 use Rattle.tk_bound.proofs.Steps.{IsTurned}
 

@@ -5,12 +5,12 @@ use Rattle.mb_pfu.specs.declared.parts.Watch.{Watch}
 use Rattle.mb_pfu.specs.Tree.{Running, Pausing, Finished, Tree, Group, Leaf, Waits, member, size, any_ready, all_ended, relieved_tree, settle, pause_at, append_group}
 use Rattle.mb_pfu.specs.Rows.{relief}
 use Rattle.mb_pfu.specs.Contexts.{filled, Frame, Context, climb}
-use Rattle.tk_bound.specs.Slots.{beyond, middle}
+use Rattle.tk_bound.proofs.Slots.{beyond, middle}
 use Rattle.tk_bound.specs.declared.word.Word.{Word}
 use Rattle.tk_bound.specs.declared.word.Word.TheVariants.{Eot, Fork}
-use Rattle.tk_bound.specs.Machine.{Image, stack}
+use Rattle.tk_bound.proofs.Inner.{Image, stack}
 use Rattle.tk_bound.specs.Sums.{Side, ToPause, ToEnd}
-use Rattle.tk_bound.specs.Cert.{Cert, Line, Thread, IsBare, Pays, Rests, Handled, upper_at, IsPlain, IsAt, AreAborts, IsThreadFine, IsFine, IsAccepted}
+use Rattle.tk_bound.proofs.Conditions.{Cert, Line, Thread, IsBare, Pays, Rests, Handled, upper_at, IsPlain, IsAt, AreAborts, IsThreadFine, IsFine, IsAccepted}
 use Rattle.tk_bound.proofs.Values.{old, Dom, Val, GVal, FVal, CVal, frame-in, context-dom, dom-dom, dom-same}
 use Rattle.tk_bound.proofs.Rights.{AreKept, old-is, old-within, relieves-all, IsWaiting, IsRight, AreRight, IsFrameRight, IsContextRight, size-same, join-right, any-unended, rest_side, rest-values}
 use Rattle.mb_isa.specs.declared.Class.TheVariants as class

@@ -6,10 +6,10 @@ use Rattle.mb_pfu.specs.declared.parts.Watch.{Watch}
 use Rattle.mb_pfu.specs.Tree.{Activity, Running, Tree, Group, Leaf, Waits, no_more, member, size, any_ready, all_ended, relieved_tree, settle, append_group, one, tally, tally_group}
 use Rattle.mb_pfu.specs.Rows.{relief}
 use Rattle.mb_pfu.specs.Contexts.{filled, Context, plug, climb}
-use Rattle.tk_bound.specs.Slots.{beyond, middle}
+use Rattle.tk_bound.proofs.Slots.{beyond, middle}
 use Rattle.tk_bound.specs.declared.word.Word.TheVariants.{Fork}
-use Rattle.tk_bound.specs.Machine.{Image, stack, begun, IsSound, occurs, occurs_among, is_busy}
-use Rattle.tk_bound.specs.Cert.{Cert, Line, Thread, IsAccepted}
+use Rattle.tk_bound.proofs.Inner.{Image, stack, begun, IsSound, occurs, occurs_among, is_busy}
+use Rattle.tk_bound.proofs.Conditions.{Cert, Line, Thread, IsAccepted}
 use Rattle.tk_bound.proofs.Rights.{IsWaiting, IsRight, AreRight}
 
 one-same : (k c : ℕ) → k ≡ c → one (k == c) ≡ 1

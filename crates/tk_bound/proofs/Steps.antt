@@ -7,14 +7,14 @@ use Rattle.mb_pfu.specs.declared.parts.Watch.{Watch}
 use Rattle.mb_pfu.specs.Tree.{Running, Pausing, Finished, Tree, Leaf, Waits, relieved_tree, pause_at, tally}
 use Rattle.mb_pfu.specs.Rows.{relief, with_last}
 use Rattle.mb_pfu.specs.Contexts.{Context, plug, climb, IsQuietBefore}
-use Rattle.tk_bound.specs.Slots.{middle, without_last}
+use Rattle.tk_bound.proofs.Slots.{middle, without_last}
 use Rattle.mb_pfu.specs.Unit.{fresh}
 use Rattle.tk_bound.specs.declared.word.Word.{Word}
 use Rattle.tk_bound.specs.declared.word.Word.TheVariants.{Does, Imm, Jump, Branch, Eot, Fork, End, Abrt, Leave, Call, Ret, Loop, Next, Drop, Cend}
-use Rattle.tk_bound.specs.Machine.{Image, State, Outcome, Goes, Traps, Stops, InTurns, stack, unless, is_none, is_nested, is_busy, is_zero, begun, going, branched, returned, turned, dropped, effect, turn_at, Turn, IsSound}
+use Rattle.tk_bound.proofs.Inner.{Image, State, Outcome, Goes, Traps, Stops, InTurns, stack, unless, is_none, is_nested, is_busy, is_zero, begun, going, branched, returned, turned, dropped, effect, turn_at, Turn, IsSound}
 use Rattle.mb_pfu.specs.declared.parts.TrapKind.{TrapKind}
 use Rattle.mb_pfu.specs.declared.parts.TrapKind.TheVariants.{WrongPlace, TableFull, TableEmpty, SlotBusy}
-use Rattle.tk_bound.specs.Cert.{upper_at, IsPlain, IsAt, seen, Fits, Views, Levels, Reach, Pays, Cert, Line, Thread, Routine, IsBare, loops_of, with_loops, InnerIs, ThreadIs, Sum, Starts, After, Rests, IsFine, IsAccepted}
+use Rattle.tk_bound.proofs.Conditions.{upper_at, IsPlain, IsAt, seen, Fits, Views, Levels, Reach, Pays, Cert, Line, Thread, Routine, IsBare, loops_of, with_loops, InnerIs, ThreadIs, Sum, Starts, After, Rests, IsFine, IsAccepted}
 use Rattle.tk_bound.specs.Sums.{Side, ToEnd}
 use Rattle.tk_bound.proofs.Values.{old, Dom, Val, CVal, context-dom, dom-dom, dom-after, plug-in, plug-out}
 use Rattle.tk_bound.proofs.Rights.{AreKept, old-is, old-within, IsRight, IsContextRight, plug-right}

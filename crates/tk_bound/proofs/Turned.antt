@@ -1,15 +1,13 @@
 -- Each word of a slot's turn keeps a good control.
-use Rattle.std.proofs.Common.{◌≡◌, ◌⊎◌, ◌≤◌, ◌<◌, ◌+◌, ◌==◌, ◌||◌, ℕ, ℤ, zero, suc, Bool, true, false, not, nat_le, nat_lt, if◌then◌else◌, List, [], ◌∷◌, ◌++◌, map, take, drop, reverse, length, is_some, Option, Some, None, option_map, refl, sym, ap, ◌∙◌, subst, inl, inr, ⊎_elim, arith, eqb-true, add-one}
-use Rattle.std.proofs.lemmas.Bool.{false≢true, both_ways}
+use Rattle.std.proofs.Common.{◌≡◌, ◌≤◌, ◌+◌, ◌==◌, ◌||◌, ℕ, ℤ, zero, suc, Bool, true, false, not, nat_le, nat_lt, if◌then◌else◌, List, [], ◌∷◌, ◌++◌, map, take, drop, reverse, length, Option, Some, None, refl, sym, ap, ◌∙◌, subst, inr, arith, add-one}
+use Rattle.std.proofs.lemmas.Bool.{false≢true}
 use Rattle.std.proofs.lemmas.Bool.Decides.{nat_tests}
-use Rattle.std.proofs.lemmas.Option.{none-some, same_Some}
 use Rattle.std.proofs.lemmas.List.{length-reverse, reverse-reverse}
-use Rattle.mb_isa.specs.declared.Reg.{Reg}
 use Rattle.mb_isa.specs.declared.Instr.{Instr}
 use Rattle.mb_isa.specs.declared.Instr.TheVariants as instr
 use Rattle.mb_isa.specs.Candidates.{decoded}
 use Rattle.mb_isa.specs.Operands.{turns_of}
-use Rattle.std.specs.Prelude.{slice_get, slice_index_or, Result, Ok, Err}
+use Rattle.std.specs.Prelude.{slice_get, Result, Ok}
 use Rattle.std.proofs.Math.Seq.{drop-cons}
 use Rattle.pt_image.specs.declared.AbortLine.{AbortLine}
 use Rattle.pt_image.specs.Listed.{is_listed}
@@ -19,9 +17,6 @@ use Rattle.mb_isa.specs.Classes.{class_of}
 use Rattle.mb_isa.specs.Costs.{cost_of}
 use Rattle.pt_image.specs.declared.Parts.{Parts}
 use Rattle.mb_pfu.specs.declared.parts.Watch.{Watch}
-use Rattle.mb_pfu.specs.declared.parts.Slot.{Slot}
-use Rattle.mb_pfu.specs.declared.parts.Slot.TheVariants.{Ready}
-use Rattle.mb_pfu.specs.Rows.{Report, ready, due, first_due, reported_test}
 use Rattle.mb_pfu.specs.Tree.{Running, Tree, Leaf, Waits, Pausing, Finished, pause_at, has_ready, all_woken, report, reported_number, reported_watches, slot_of, watches_of, next_job, next_test}
 use Rattle.mb_pfu.specs.Tree as tree
 use Rattle.mb_pfu.specs.Contexts.{Context, plug, IsQuietBefore}
@@ -30,41 +25,31 @@ use Rattle.mb_pfu.specs.Unit as unit
 use Rattle.mb_pfu.specs.Unit.{fresh}
 use Rattle.mb_pfu.specs.Calls as calls
 use Rattle.mb_pfu.specs.Calls.{with_tree, last_of}
-use Rattle.mb_pfu.specs.Rows.{with_last, relief}
+use Rattle.mb_pfu.specs.Rows.{with_last}
 use Rattle.mb_pfu.specs.declared.parts.TrapKind.{TrapKind}
 use Rattle.mb_pfu.specs.declared.parts.TrapKind.TheVariants.{WrongPlace, SlotBusy, TableFull, TableEmpty}
 use Rattle.mb_pfu.specs.Unit.{entry_of}
-use Rattle.mb_pfu.proofs.Cases.{none-there}
-use Rattle.mb_pfu.proofs.Firsts.{report-numbered}
-use Rattle.mb_pfu.proofs.Laws.{is_in-ready}
-use Rattle.mb_pfu.proofs.Trees.{is_in-report}
 use Rattle.mb_step.specs.Control as control
 use Rattle.mb_step.specs.Control.{Control, goes, stack_of, start_in, turns_from, turns_on, wakes, tests_from, tests_on}
 use Rattle.mb_step.specs.Words as plans
 use Rattle.mb_step.specs.Words.{Plan, Rest, Refuse, Go, Work, Conclude, plan_of, plan_word, plan_decoded, is_barred, rests, on, on_to, enters, goes_to}
 use Rattle.tk_cert.specs.declared.cert.CertParts.{CertParts}
-use Rattle.tk_bound.specs.Slots.{next_cond}
-use Rattle.tk_bound.specs.Machine.{Image, State, Outcome, Goes, Traps, Stops, IsSound, stack, unless, is_none, is_nested, is_zero, is_busy, occurs, effect, returned, turned, dropped, turn_at, test_at, test_effect, begun}
-use Rattle.tk_bound.specs.Machine as machine
-use Rattle.tk_bound.specs.Cert.{Cert, IsAccepted}
+use Rattle.tk_bound.proofs.Inner.{Image, State, Outcome, Goes, Traps, Stops, IsSound, stack, unless, is_none, is_nested, is_zero, is_busy, occurs, effect, returned, turned, dropped, turn_at, test_at, test_effect, begun}
+use Rattle.tk_bound.proofs.Inner as machine
+use Rattle.tk_bound.proofs.Conditions.{Cert}
 use Rattle.tk_bound.specs.declared.word.Word.{Word}
-use Rattle.tk_bound.specs.declared.word.Word.TheVariants.{Does, Imm, Jump, Branch, Fork, Eot, End, Abrt, Leave, Call, Ret, Loop, Next, Drop, Cend}
+use Rattle.tk_bound.specs.declared.word.Word.TheVariants.{Jump, Branch, Fork, Eot, End, Abrt, Leave, Call, Loop}
 use Rattle.tk_bound.specs.Words.{word_of, goal_of, instr_in, read_instr, read}
 use Rattle.tk_bound.specs.Kinds.{start_of, abort_at}
-use Rattle.tk_bound.proofs.Firsts.{Job, job}
-use Rattle.tk_bound.proofs.Finds.{turn_of}
-use Rattle.tk_bound.proofs.Rests.{plug-ready}
+use Rattle.tk_bound.proofs.Firsts.{job}
 use Rattle.tk_bound.proofs.Steps.{IsTurned, IsTurnKept, turn-running, turn-kept}
 use Rattle.tk_bound.proofs.Sounds.{sound-leaf}
-use Rattle.tk_bound.specs.Slots.{middle, without_last}
-use Rattle.tk_bound.proofs.Whole.{IsTested, IsInTest, IsOutKept, step-kept}
-use Rattle.tk_bound.proofs.Written.{accepted_by_sums}
+use Rattle.tk_bound.proofs.Slots.{middle, without_last}
 use Rattle.tk_bound.proofs.Carried.{reverse-last}
 use Rattle.tk_bound.proofs.Accepts.{Accepts}
 use Rattle.tk_bound.proofs.Accepted.{abort-there}
 use Rattle.tk_bound.proofs.Turns.{middle-same, last-reverse, reverse-none, plug-occurs, free-children, watches-are, paused-is, finished-is, forked-is, entered-is, left-is}
-use Rattle.tk_bound.proofs.Controls.{E, D, sums, IsTurnAt, IsGood, IsPlanGood, turns-good, tests-good}
-
+use Rattle.tk_bound.proofs.Controls.{E, D, sums, IsTurnAt, IsGood, IsPlanGood, turns-good}
 
 busy-same : (t u : Tree) → ((c : ℕ) → occurs c 0 t ≡ occurs c 0 u) → (n lo : ℕ) → is_busy lo n t ≡ is_busy lo n u
 busy-same t u h zero lo = refl

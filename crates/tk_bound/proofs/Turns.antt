@@ -1,9 +1,7 @@
 -- The unit's moves of the first ready slot, by what is round it.
-use Rattle.std.proofs.Common.{◌≡◌, ◌≤◌, ◌<◌, ◌+◌, ◌-◌, ◌==◌, ◌||◌, ℕ, zero, suc, Bool, true, false, not, nat_le, if◌then◌else◌, List, [], ◌∷◌, ◌++◌, map, take, drop, reverse, length, slice_index_or, is_some, Option, Some, None, option_map, refl, sym, ap, ◌∙◌, subst, arith, eqb-true, eq-eqb, add-one, leb-true}
-use Rattle.std.proofs.lemmas.Bool.{false≢true, both_ways}
-use Rattle.std.proofs.lemmas.Bool.Decides.{nat_tests}
-use Rattle.std.proofs.lemmas.Option.{none-some, same_Some}
-use Rattle.std.proofs.lemmas.List.{length-reverse, reverse-reverse, reverse-append}
+use Rattle.std.proofs.Common.{◌≡◌, ◌≤◌, ◌+◌, ◌-◌, ◌==◌, ◌||◌, ℕ, Bool, true, false, not, if◌then◌else◌, List, [], ◌∷◌, ◌++◌, take, reverse, length, slice_index_or, Option, Some, None, option_map, refl, sym, ap, ◌∙◌, arith, add-one, leb-true}
+use Rattle.std.proofs.lemmas.Bool.{false≢true}
+use Rattle.std.proofs.lemmas.List.{reverse-reverse, reverse-append}
 use Rattle.mb_pfu.specs.declared.parts.Watch.{Watch}
 use Rattle.mb_pfu.specs.declared.parts.Slot.{Slot}
 use Rattle.mb_pfu.specs.declared.parts.Slot.TheVariants.{Ready}
@@ -15,11 +13,10 @@ use Rattle.mb_pfu.specs.Contexts.{Frame, Context, filled, plug, climb, IsQuietBe
 use Rattle.mb_pfu.specs.Contexts as contexts
 use Rattle.mb_pfu.specs.Calls.{last_of, last_from}
 use Rattle.mb_pfu.proofs.Firsts.{at-numbered, report-numbered}
-use Rattle.mb_pfu.proofs.Laws.{at-plug, stay-plug, report-plug, free-outside, is_in-ready}
-use Rattle.mb_pfu.proofs.Trees.{is_in-report}
-use Rattle.tk_bound.specs.Slots.{beyond, middle, without_last, first_cond, next_cond, next_cond_among}
-use Rattle.tk_bound.specs.Machine.{Image, is_none, occurs, occurs_among, IsSound}
-use Rattle.tk_bound.specs.Machine as machine
+use Rattle.mb_pfu.proofs.Laws.{at-plug, stay-plug, report-plug, free-outside}
+use Rattle.tk_bound.proofs.Slots.{beyond, middle, without_last, first_cond, next_cond, next_cond_among}
+use Rattle.tk_bound.proofs.Inner.{Image, is_none, occurs, occurs_among, IsSound}
+use Rattle.tk_bound.proofs.Inner as machine
 
 pub beyond-size : (k : ℕ) (ts : Group) → beyond k ts ≡ k + size ts
 beyond-size k no_more = omega arith

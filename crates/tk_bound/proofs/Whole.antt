@@ -5,12 +5,12 @@ use Rattle.std.proofs.lemmas.Option.{same_Some}
 use Rattle.mb_pfu.specs.declared.parts.Watch.{Watch}
 use Rattle.mb_pfu.specs.Tree.{Activity, Running, Tree, Group, Leaf, Waits, no_more, member, each_slot, each_member, tests_begun, wakes, one, tally, tally_group}
 use Rattle.mb_pfu.specs.Contexts.{Frame, Context}
-use Rattle.tk_bound.specs.Slots.{middle, Judged, Cut, Kept, judged, judged_tree, first_cond, next_cond, if_some, test_answered, test_answered_among}
+use Rattle.tk_bound.proofs.Slots.{middle, Judged, Cut, Kept, judged, judged_tree, first_cond, next_cond, if_some, test_answered, test_answered_among}
 use Rattle.mb_pfu.specs.Rows.{renewed}
 use Rattle.tk_bound.specs.declared.word.Word.{Word}
 use Rattle.tk_bound.specs.declared.word.Word.TheVariants.{Does, Imm, Jump, Branch, Eot, Fork, End, Abrt, Leave, Call, Ret, Loop, Next, Drop, Cend}
-use Rattle.tk_bound.specs.Machine.{Image, State, Outcome, Goes, Traps, Stops, Phase, Testing, InTest, InTurns, stack, IsSound, test_next, test_at, test_effect, chosen, answer, turn_at, StepIn, Step, Path, still, onward, Guided, still_guided, guided, IsLoose, IsConfiguration, first, loose, begun_free}
-use Rattle.tk_bound.specs.Cert.{upper_at, Cert, Line, Thread, Cond, IsBare, Reach, both_sides, loops_of, Ends, Over, With, Resumes, IsFine, IsAccepted, BoundsFreeTicks, BoundsGuided}
+use Rattle.tk_bound.proofs.Inner.{Image, State, Outcome, Goes, Traps, Stops, Phase, Testing, InTest, InTurns, stack, IsSound, test_next, test_at, test_effect, chosen, answer, turn_at, StepIn, Step, Path, still, onward, Guided, still_guided, guided, IsLoose, IsConfiguration, first, loose, begun_free}
+use Rattle.tk_bound.proofs.Conditions.{upper_at, Cert, Line, Thread, Cond, IsBare, Reach, both_sides, loops_of, Ends, Over, With, Resumes, IsFine, IsAccepted, BoundsFreeTicks, BoundsGuided}
 use Rattle.tk_bound.specs.Sums.{Side}
 use Rattle.tk_bound.specs.Acceptance.{Value}
 use Rattle.tk_bound.proofs.Values.{old, Val, Around, FVal, CVal}

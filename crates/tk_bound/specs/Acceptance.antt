@@ -1,11 +1,10 @@
 -- The conditions of acceptance A3 to A7, and what all conditions ask: docs/bounds.md, "Acceptance".
-use Rattle.std.specs.Prelude.{ℕ, zero, suc, ◌||◌, ◌+◌, ◌-◌, ◌*◌, nat_le, min, Bool, true, false, not, if◌then◌else◌, List, [], ◌∷◌, ◌++◌, length, slice_get, Option, Some, None}
+use Rattle.std.specs.Prelude.{ℕ, zero, suc, ◌||◌, ◌+◌, ◌-◌, ◌*◌, min, Bool, if◌then◌else◌, List, [], ◌∷◌, ◌++◌, length, slice_get, Option, Some, None}
 use Rattle.std.specs.Option.{is_some}
 use Rattle.std.specs.List.{list_any, flat_map, range_with_len}
 use Rattle.mb_isa.specs.declared.Class.{Class}
 use Rattle.mb_isa.specs.declared.Class.TheVariants as class
 use Rattle.mb_isa.specs.Costs.{cost_of}
-use Rattle.pt_image.specs.declared.AbortLine.{AbortLine}
 use Rattle.pt_image.specs.declared.Point.{Point}
 use Rattle.pt_image.specs.declared.Parts.{Parts}
 use Rattle.mb_pfu.specs.Calls.{last_of}
@@ -13,7 +12,7 @@ use Rattle.mb_step.specs.Tick.{base_of}
 use Rattle.tk_cert.specs.declared.cert.Line.{Line}
 use Rattle.tk_cert.specs.declared.cert.Line.TheVariants.{Bare, Thread, Routine, Cond}
 use Rattle.tk_cert.specs.declared.cert.CertParts.{CertParts}
-use Rattle.tk_cert.specs.Demands.{Demand, at_least, AllHold}
+use Rattle.tk_cert.specs.Demands.{Demand, at_least}
 use Rattle.tk_bound.specs.Sums.{Side, ToPause, ToEnd, plus, or_zero, lowered, all_ends, most_paused, resumed_ends, resumed_paused, greatest}
 use Rattle.tk_bound.specs.declared.word.Word.{Word}
 use Rattle.tk_bound.specs.declared.word.Word.TheVariants.{Does, Imm, Jump, Branch, Fork, Eot, End, Abrt, Leave, Call, Ret, Loop, Next, Drop, Cend}
@@ -224,8 +223,8 @@ module _ (image : Parts) (cert : CertParts) (costs : List ℕ) where
   abbrev pub fork_resumes : Point → ℕ → ℕ → List Demand
   fork_resumes p lo count =
       if has_resumed lo count then
-        resumed_strong p ToPause ++ resumed_join p lo count ToPause ++ resumes p ToPause (more (conditions 0 p.stack) (resumed_paused resumed lo count)) ++ resumed_handlers p lo count ToPause
-        ++ resumed_strong p ToEnd ++ resumed_join p lo count ToEnd ++ resumed_handlers p lo count ToEnd
+      resumed_strong p ToPause ++ resumed_join p lo count ToPause ++ resumes p ToPause (more (conditions 0 p.stack) (resumed_paused resumed lo count)) ++ resumed_handlers p lo count ToPause
+      ++ resumed_strong p ToEnd ++ resumed_join p lo count ToEnd ++ resumed_handlers p lo count ToEnd
       else []
 
   -- A6, resuming

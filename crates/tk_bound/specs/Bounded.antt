@@ -49,3 +49,11 @@ pub record IsAcceptedFor (image : Parts) (cert : CertParts) (costs : List ℕ) :
   pub cert_is : IsCert cert
   pub priced : IsCosts costs
   pub hold : AllHold (asks image cert costs)
+
+-- where all demands hold, the bound bounds every free tick, whoever made image, certificate and costs
+abbrev pub FreeTicksAreBounded : Type 0
+FreeTicksAreBounded = (image : Parts) (cert : CertParts) (costs : List ℕ) → IsAcceptedFor image cert costs → BoundsFreeTicks image costs cert.bound
+
+-- and every tick of every run
+abbrev pub RunsAreBounded : Type 0
+RunsAreBounded = (image : Parts) (cert : CertParts) (costs : List ℕ) → IsAcceptedFor image cert costs → BoundsRuns image costs cert.bound

@@ -1,5 +1,5 @@
 -- What a certificate's lines say but for their numbers: docs/bounds.md, "Kinds".
-use Rattle.std.specs.Prelude.{ℕ, ℤ, zero, suc, ◌+◌, ◌==◌, ◌&&◌, ◌||◌, Bool, true, false, if◌then◌else◌, List, [], ◌∷◌, ◌++◌, map, length, slice_get, slice_index_or, Option, Some, None}
+use Rattle.std.specs.Prelude.{ℕ, ℤ, zero, suc, ◌==◌, ◌&&◌, Bool, true, false, if◌then◌else◌, List, [], ◌∷◌, ◌++◌, map, length, slice_get, slice_index_or, Option, Some, None}
 use Rattle.std.specs.List.{list_any, filter, flat_map, range_with_len}
 use Rattle.mb_isa.specs.declared.Instr.{Instr}
 use Rattle.mb_isa.specs.declared.Instr.TheVariants as instr
@@ -10,7 +10,7 @@ use Rattle.pt_image.specs.Listed.{same_numbers}
 use Rattle.tk_cert.specs.declared.cert.Line.{Line}
 use Rattle.tk_cert.specs.declared.cert.Line.TheVariants.{Bare, Thread, Routine, Cond}
 use Rattle.tk_bound.specs.declared.word.Word.{Word}
-use Rattle.tk_bound.specs.declared.word.Word.TheVariants.{Does, Imm, Jump, Branch, Fork, Eot, End, Abrt, Leave, Call, Ret, Loop, Next, Drop, Cend}
+use Rattle.tk_bound.specs.declared.word.Word.TheVariants.{Jump, Branch, Fork, Call, Next}
 use Rattle.tk_bound.specs.Words.{instr_at, read}
 
 -- the line of a place; a place without one has a line that says nothing

@@ -3,8 +3,4 @@ pub mod Kinds
 pub mod Sums
 pub mod Shape
 pub mod Acceptance
-pub mod Slots
-pub mod Machine
-pub mod Cert
-pub mod Written
 pub mod Bounded

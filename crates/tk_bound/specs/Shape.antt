@@ -1,5 +1,5 @@
 -- A1, the shape of a certificate, and A2, the forks of one image: docs/bounds.md, "Acceptance".
-use Rattle.std.specs.Prelude.{ℕ, ◌+◌, ◌==◌, ◌&&◌, ◌||◌, not, nat_lt, nat_le, Bool, true, false, if◌then◌else◌, List, [], ◌∷◌, ◌++◌, length, map, slice_get, Option, Some, None}
+use Rattle.std.specs.Prelude.{ℕ, ◌+◌, ◌==◌, ◌&&◌, ◌||◌, not, nat_lt, nat_le, Bool, true, false, if◌then◌else◌, List, [], ◌∷◌, ◌++◌, length, map, Option, Some, None}
 use Rattle.std.specs.Option.{is_some}
 use Rattle.std.specs.List.{list_all, flat_map, range_with_len}
 use Rattle.mb_isa.specs.declared.Instr.{Instr}
@@ -10,7 +10,7 @@ use Rattle.pt_image.specs.declared.Parts.{Parts}
 use Rattle.pt_image.specs.Listed.{is_listed}
 use Rattle.mb_pfu.specs.Calls.{last_of}
 use Rattle.tk_cert.specs.declared.cert.Line.{Line}
-use Rattle.tk_cert.specs.declared.cert.Line.TheVariants.{Bare, Thread, Routine, Cond}
+use Rattle.tk_cert.specs.declared.cert.Line.TheVariants.{Bare, Thread, Routine}
 use Rattle.tk_cert.specs.declared.cert.CertParts.{CertParts}
 use Rattle.tk_cert.specs.Demands.{Demand, shape_demand}
 use Rattle.tk_bound.specs.declared.word.Word.{Word}

@@ -5,7 +5,7 @@ use Rattle.mb_isa.specs.declared.Instr.TheVariants as instr
 use Rattle.tk_bound.specs.declared.word.Word.{Word}
 use Rattle.tk_bound.specs.declared.word.Word.TheVariants.{Does, Imm, Jump, Branch, Fork, Eot, End, Abrt, Leave, Call, Ret, Loop, Next, Drop, Cend}
 use Rattle.mb_isa.specs.Candidates.{decoded}
-use Rattle.mb_isa.specs.Classes.{class_of, takes_upper}
+use Rattle.mb_isa.specs.Classes.{class_of}
 use Rattle.pt_image.specs.declared.Parts.{Parts}
 use Rattle.mb_isa.specs.Operands.{immediate, turns_of, branch_place}
 use Rattle.mb_step.specs.Words.{is_barred}

@@ -4,10 +4,10 @@ use Rattle.std.proofs.lemmas.Bool.Decides.{nat_tests}
 use Rattle.std.proofs.lemmas.Option.{none-some, same_Some}
 use Rattle.tk_bound.specs.declared.word.Word.{Word}
 use Rattle.tk_bound.specs.declared.word.Word.TheVariants.{Does, Imm, Jump, Branch, Eot, Fork, End, Abrt, Leave, Call, Ret, Loop, Next, Drop, Cend}
-use Rattle.tk_bound.specs.Machine.{Image}
+use Rattle.tk_bound.proofs.Inner.{Image}
 use Rattle.tk_bound.specs.Sums.{Side, ToPause, ToEnd, plus, greater, or_zero, and_more, all_ends, most, most_paused, resumed_ends, resumed_most, resumed_paused}
-use Rattle.tk_bound.specs.Cert.{Cert, Line, Bare, Thread, Routine, Cond, Pays, ThreadIs, both_sides, Handled, Rests, After, Sum, Starts, Ends, Over, With, both_ends, Resumes, Resumed, Tested, IsFine, IsPauseFine, IsForkFine, IsAccepted}
-use Rattle.tk_bound.specs.Written.{Asks, begins, EachWeak, EachStrong, conditions, PausesPay, ForksPay, IsFineWritten, IsPauseWritten, ForkResumes, HasResumed, IsForkWritten, IsAcceptedWritten}
+use Rattle.tk_bound.proofs.Conditions.{Cert, Line, Bare, Thread, Routine, Cond, Pays, ThreadIs, both_sides, Handled, Rests, After, Sum, Starts, Ends, Over, With, both_ends, Resumes, Resumed, Tested, IsFine, IsPauseFine, IsForkFine, IsAccepted}
+use Rattle.tk_bound.proofs.BySums.{Asks, begins, EachWeak, EachStrong, conditions, PausesPay, ForksPay, IsFineWritten, IsPauseWritten, ForkResumes, HasResumed, IsForkWritten, IsAcceptedWritten}
 use Rattle.mb_isa.specs.declared.Class.TheVariants as class
 
 -- a number is there, and is at least this

@@ -1,9 +1,9 @@
 -- The unit's tree and its conditions, as the proofs go through them.
-use Rattle.std.specs.Prelude.{not, ℕ, ◌+◌, ◌&&◌, Bool, true, false, if◌then◌else◌, List, [], ◌∷◌, Option, Some, None}
+use Rattle.std.specs.Prelude.{not, ℕ, ◌+◌, ◌&&◌, Bool, if◌then◌else◌, List, [], ◌∷◌, Option, Some, None}
 use Rattle.mb_pfu.specs.declared.parts.Watch.{Watch}
 use Rattle.mb_pfu.specs.Tree.{Running, Tree, Group, Leaf, Waits, no_more, member}
 use Rattle.mb_pfu.specs.Rows.{answered, or_else}
-use Rattle.mb_pfu.specs.Contexts.{Frame, Context}
+use Rattle.mb_pfu.specs.Contexts.{Context}
 
 -- the number behind those of a group that begin at k; in `mb_pfu`, `k + size group`
 abbrev pub beyond : ℕ → Group → ℕ

@@ -1,9 +1,9 @@
 -- The free tick: the machine's tick without registers and memory. Links and counters are lists with the latest first.
-use Rattle.std.specs.Prelude.{not, map, length, nat_le, nat_lt, ◌≡◌, ℕ, ℤ, zero, suc, ◌+◌, ◌==◌, ◌||◌, Bool, true, false, if◌then◌else◌, List, [], ◌∷◌, Option, Some, None}
+use Rattle.std.specs.Prelude.{not, map, length, nat_le, nat_lt, ◌≡◌, ℕ, ℤ, zero, suc, ◌+◌, ◌==◌, ◌||◌, Bool, true, false, List, [], ◌∷◌, Option, Some, None}
 use Rattle.mb_pfu.specs.declared.parts.Watch.{Watch}
 use Rattle.mb_pfu.specs.Tree.{Running, Pausing, Finished, Tree, Group, Leaf, Waits, no_more, member, size, all_ended, pause_at, tests_begun, all_woken}
 use Rattle.mb_pfu.specs.Contexts.{Context, plug, climb, IsQuietBefore}
-use Rattle.tk_bound.specs.Slots.{middle, without_last, next_cond, test_answered}
+use Rattle.tk_bound.proofs.Slots.{middle, without_last, next_cond, test_answered}
 use Rattle.mb_pfu.specs.Unit.{fresh}
 use Rattle.mb_pfu.specs.Rows.{with_last}
 use Rattle.mb_pfu.specs.Tree.{tally}

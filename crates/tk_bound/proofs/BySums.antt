@@ -1,10 +1,10 @@
 -- A4 to A6 by greatest sums, as they are written and computed; the other conditions are those of `Cert`.
-use Rattle.std.specs.Prelude.{length, ◌≡◌, ◌≤◌, ◌<◌, ℕ, zero, suc, ◌+◌, nat_le, if◌then◌else◌, true, false, List, [], ◌∷◌, Option, Some, None}
+use Rattle.std.specs.Prelude.{length, ◌≡◌, ◌≤◌, ◌<◌, ℕ, zero, suc, ◌+◌, true, false, List, [], ◌∷◌, Option, Some, None}
 use Rattle.tk_bound.specs.declared.word.Word.{Word}
 use Rattle.tk_bound.specs.declared.word.Word.TheVariants.{Eot, Fork}
-use Rattle.tk_bound.specs.Machine.{Image}
-use Rattle.tk_bound.specs.Sums.{Side, ToPause, ToEnd, plus, all_ends, most_paused, resumed_ends, resumed_paused}
-use Rattle.tk_bound.specs.Cert.{Cert, Line, Thread, IsBare, Pays, upper_at, IsPlain, IsAt, ThreadIs, Levels, IsThreadFine, IsFine}
+use Rattle.tk_bound.proofs.Inner.{Image}
+use Rattle.tk_bound.specs.Sums.{Side, ToPause, plus, all_ends, most_paused, resumed_ends, resumed_paused}
+use Rattle.tk_bound.proofs.Conditions.{Cert, Line, Thread, IsBare, Pays, upper_at, IsPlain, IsAt, ThreadIs, Levels, IsThreadFine, IsFine}
 use Rattle.mb_isa.specs.declared.Class.TheVariants as class
 
 -- a number that isn't there asks for nothing where it is the smaller side

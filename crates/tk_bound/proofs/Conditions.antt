@@ -3,7 +3,7 @@ use Rattle.std.specs.Prelude.{length, ◌≡◌, ◌⊎◌, ◌≤◌, ◌<◌, 
 use Rattle.mb_pfu.specs.Tree.{Tree, has_ready}
 use Rattle.tk_bound.specs.declared.word.Word.{Word}
 use Rattle.tk_bound.specs.declared.word.Word.TheVariants.{Does, Imm, Jump, Branch, Eot, Fork, End, Abrt, Leave, Call, Ret, Loop, Next, Drop, Cend}
-use Rattle.tk_bound.specs.Machine.{Image, State, Traps, IsConfiguration, Step, Path, Guided, InTurns, begun_free}
+use Rattle.tk_bound.proofs.Inner.{Image, State, Traps, IsConfiguration, Step, Path, Guided, InTurns, begun_free}
 use Rattle.mb_pfu.specs.declared.parts.TrapKind.{TrapKind}
 use Rattle.mb_isa.specs.declared.Class.TheVariants as class
 use Rattle.tk_bound.specs.Sums.{Side, ToPause, ToEnd}

@@ -61,12 +61,13 @@ ended() { long "$1" "$(wc -c <s.pc) $(wc -c <s.pc)"; }
 names() { seq -f "$1%g" -s "$2" "$3"; }
 head -c 1048577 /dev/zero | tr '\0' ' ' >s.pc; long Z1 "1048576 1048576"
 { for k in $(seq 64); do printf 'void t%d() { }\n' "$k"; done; printf 'void main() { PAR(%s); }' "$(names t , 64)"; } >s.pc; ended Z2
-{ printf 'void main() { '; for k in $(seq 9); do printf 'abort '; done; printf 'EOT;'; for k in $(seq 9); do printf ' when pre (0);'; done; echo ' }'; } >s.pc
+times() { for _ in $(seq "$1"); do printf '%s' "$2"; done; }
+echo "void main() { $(times 9 'abort ')EOT;$(times 9 ' when pre (0);') }" >s.pc
 long Z4 "62 67"
-{ printf 'void main() { '; for k in $(seq 9); do printf 'while (0) #0 '; done; echo '; }'; } >s.pc; long Z5 "118 123"
+echo "void main() { $(times 9 'while (0) #0 '); }" >s.pc; long Z5 "118 123"
 { echo 'void r1() { }'; for k in $(seq 2 17); do printf 'void r%d() { r%d(); }\n' "$k" $((k - 1)); done; echo 'void main() { }'; } >s.pc
 place="$(($(grep -bo 'r17' s.pc | head -1 | cut -d: -f1)))"; long Z6 "$place $((place + 3))"
-{ printf 'int x; void main() { '; for k in $(seq 7500); do printf 'x = 1; '; done; printf '}'; } >s.pc; ended Z7
+printf '%s' "int x; void main() { $(times 7500 'x = 1; ')}" >s.pc; ended Z7
 { for k in $(seq 65); do printf 'ReactiveInput int i%d = 0;\n' "$k"; done; printf 'void main() { }'; } >s.pc; ended Z9
 
 # a source of several lines, with a tab and a letter of two bytes before the place
@@ -74,6 +75,21 @@ printf '// \xc3\xa4\nint x = 0;\nvoid main() {\n\t/* \xc3\xa4 */ y = 1;\n}\n' >s
 echo "refused N2 41 42" >wanted
 { echo "pretc: s.pc, line 4, column 10: N2"; printf '  4 | \t/* \xc3\xa4 */ y = 1;\n    | \t        ^\n'; said N2; } >wanted_err
 front "several lines" 1 rules s.pc
+# what C has and PRET-C hasn't: by the mark at the place, or by a word of the line outside of comments
+here() {
+  printf '%s\n' "$2" >s.pc
+  PRETC_EXPLAIN=always "$top/pretc" rules s.pc >out 2>err </dev/null
+  [ "$(grep '^here: ' err)" = "${1:+here: $1}" ] || wrong "$2: $(cat err)"
+}
+here 'there is no `++` and no `--`: write `i = i + 1;`' 'int i; void main() { i++; }'
+here 'there is no `++` and no `--`: write `i = i + 1;`' 'int i; void main() { i--; }'
+here 'there is one loop: `while (c) #n` with the most turns, or `while (c)` whose body pauses' 'int i; void main() { for (i = 0; i < 3; i++) ; }'
+here 'every value is an `int` of 32 bits' 'unsigned x;'
+here 'there are no strings and no characters: write the number' 'int x; void main() { x = "a"; }'
+here 'write `1` and `0`' 'int x; void main() { x = true; }'
+here '' 'int x; void main() { /* for */ x = 1 }'
+printf '// \xc3\xa4\nint x = 0;\nvoid main() {\n\t/* \xc3\xa4 */ y = 1;\n}\n' >s.pc
+echo "refused N2 41 42" >wanted
 # nothing is said where it isn't asked for
 for asked in never ""; do
   PRETC_EXPLAIN="$asked" "$top/pretc" rules s.pc >out 2>err </dev/null; status=$?
@@ -99,12 +115,25 @@ damaged() {
   said "$rule" >>wanted_err
   front "$rule" 8 check "$im" "$ce" -
 }
-damaged I1 image 1 's/^ARPRET 1/ARPRET 2/'; damaged I2 image 4 's/^30630001/3063000A/'; damaged I3 image 9 '9s/0/-0/'
-damaged I4 image 12 '12s/0/2/'; damaged I5 image 14 '14s/1/2/'; damaged I6 image 16 '16s/0/5/'
-damaged I7 image 18 '17s/0/1/;17a s 5 0'
-damaged I8 image 19 's/^3 0 0/3 0 1 0/'; damaged I9 image 0 '$d'; damaged I10 image 21 '$a x'
-damaged K1 cert 1 's/^PRETCERT 1/PRETCERT 2/'; damaged K2 cert 2 's/^bound 8/bound -/'; damaged K3 cert 5 '5s/ -$//'
-damaged K4 cert 9 's/^loops 0/loops x/'; damaged K5 cert 10 's/^slots 1/slots 0/'; damaged K6 cert 13 's/^p 3/q 3/'; damaged K7 cert 16 '$a x'
+while IFS='|' read -r rule file number edit; do damaged "$rule" "$file" "$number" "$edit"; done <<'ROWS'
+I1|image|1|s/^ARPRET 1/ARPRET 2/
+I2|image|4|s/^30630001/3063000A/
+I3|image|9|9s/0/-0/
+I4|image|12|12s/0/2/
+I5|image|14|14s/1/2/
+I6|image|16|16s/0/5/
+I7|image|18|17s/0/1/;17a s 5 0
+I8|image|19|s/^3 0 0/3 0 1 0/
+I9|image|0|$d
+I10|image|21|$a x
+K1|cert|1|s/^PRETCERT 1/PRETCERT 2/
+K2|cert|2|s/^bound 8/bound -/
+K3|cert|5|5s/ -$//
+K4|cert|9|s/^loops 0/loops x/
+K5|cert|10|s/^slots 1/slots 0/
+K6|cert|13|s/^p 3/q 3/
+K7|cert|16|$a x
+ROWS
 # no RULE LINE PLACE NEEDED GIVEN EDIT: the edit of the certificate is refused, with the word and the line of the place
 no() {
   local rule="$1" number="$2" at="$3" needed="$4" given="$5"
@@ -120,7 +149,11 @@ no() {
   front "$rule" 9 check "$image" bad -
 }
 printf '%s\n' 'lwi r3, r0, 0' 'addik r3, r3, 1' 'swi r3, r0, 4' eot 'bri -16' >words
-no A1 5 1 0 0 '5s/.*/-/'; no A3 4 0 4 3 '4s/4 -/3 -/'; no A4 7 3 1 0 '7s/1 -/0 -/'; no A6 7 3 5 - '11s/5/-/'; no A7 2 0 8 7 's/^bound 8/bound 7/'
+no A1 5 1 0 0 '5s/.*/-/'
+no A3 4 0 4 3 '4s/4 -/3 -/'
+no A4 7 3 1 0 '7s/1 -/0 -/'
+no A6 7 3 5 - '11s/5/-/'
+no A7 2 0 8 7 's/^bound 8/bound 7/'
 
 # what no command that is built answers: a stand-in for the program prints the line
 stand_in() { printf '#!/bin/sh\necho "%s"\n' "$1" >program; chmod +x program; }
@@ -139,26 +172,45 @@ for rule in A2 A5; do
     [ "$rule" = A2 ] || echo "  needed 6, given 5"; said "$rule"; } >wanted_err
   aside "$rule" 9 check "$image" "$cert" -
 done
+# marked FILE LINE RULE TEXT: the line of a file that is shown
+marked() {
+  printf 'pretc: %s, line %d: %s\n  %d | %s\n' "$1" "$2" "$3" "$2" "$4"
+  printf '  %*s | %s\n' "${#2}" '' "$(times "$((${#4} > 0 ? ${#4} : 1))" '^')"
+}
 printf 'alu = 0\nnop = 1\n' >costs
-stand_in "costs C1"; { echo "pretc: costs: C1"; said C1; } >wanted_err; aside C1 6 check "$image" "$cert" costs
-stand_in "costs C2 cend"; { echo "pretc: costs: C2 cend"; said C2; } >wanted_err; aside C2 6 run s.pc costs im ce
-stand_in "costs C3 alu"; { printf 'pretc: costs, line 1: C3\n  1 | alu = 0\n    | ^^^^^^^\n'; said C3; } >wanted_err; aside C3 6 run s.pc costs im ce
-stand_in "costs C4"; { printf 'pretc: costs, line 2: C4\n  2 | nop = 1\n    | ^^^^^^^\n'; said C4; } >wanted_err; aside C4 6 run s.pc costs im ce
+stand_in "costs C1"
+{ echo "pretc: costs: C1"; said C1; } >wanted_err
+aside C1 6 check "$image" "$cert" costs
+stand_in "costs C2 cend"
+{ echo "pretc: costs: C2 cend"; said C2; } >wanted_err
+aside C2 6 run s.pc costs im ce
+stand_in "costs C3 alu"
+{ marked costs 1 C3 "alu = 0"; said C3; } >wanted_err
+aside C3 6 run s.pc costs im ce
+stand_in "costs C4"
+{ marked costs 2 C4 "nop = 1"; said C4; } >wanted_err
+aside C4 6 run s.pc costs im ce
 # the trace begins behind its first three bytes here
 start=3
 printf 'no\n4\n5\n2147483648\n' >input
-{ printf 'pretc: the trace, line 3: T1\n  3 | 2147483648\n    | ^^^^^^^^^^\n'; said T1; } >wanted_err; aside T1 7 mean "$top/examples/p1.pc"
+{ marked "the trace" 3 T1 2147483648; said T1; } >wanted_err
+aside T1 7 mean "$top/examples/p1.pc"
 printf 'no\n4\n\n' >input
-{ printf 'pretc: the trace, line 2: T2\n  2 | \n    | ^\n  the program has 1 input\n'; said T2; } >wanted_err; aside T2 7 mean "$top/examples/p1.pc"
+{ marked "the trace" 2 T2 ""; echo "  the program has 1 input"; said T2; } >wanted_err
+aside T2 7 mean "$top/examples/p1.pc"
 start=0
-{ yes '' | head -1000000; echo x; } >input; printf 'void main() { }' >none.pc
-{ printf 'pretc: the trace, line 1000001: T3\n  1000001 | x\n          | ^\n'; said T3; } >wanted_err; aside T3 7 mean none.pc
-head -c 1025 /dev/zero | tr '\0' ' ' >input
-{ echo "pretc: the trace, line 1: T4"; } >wanted_err
+printf 'void main() { }' >none.pc
+{ yes '' | head -1000000; echo x; } >input
+{ marked "the trace" 1000001 T3 x; said T3; } >wanted_err
+aside T3 7 mean none.pc
+times 1025 ' ' >input
 "$top/tools/explain" ./program 7 0 mean none.pc <input >out 2>err
-head -1 err | cmp -s - wanted_err && tail -n 2 err | cmp -s - <(said T4) || wrong "T4: another explanation"
+[ "$(head -1 err)" = "pretc: the trace, line 1: T4" ] && tail -n 2 err | cmp -s - <(said T4) || wrong "T4: another explanation"
 # where the trace is no file, all four are said
-{ echo "pretc: a line of the trace is refused; the last line of the output has its rule and its number"; for k in 1 2 3 4; do said "T$k"; done; } >wanted_err
+{
+  echo "pretc: a line of the trace is refused; the last line of the output has its rule and its number"
+  for k in 1 2 3 4; do said "T$k"; done
+} >wanted_err
 "$top/tools/explain" ./program 7 0 mean none.pc < <(echo x) >out 2>err
 cmp -s err wanted_err || wrong "a trace from a pipe: another explanation"
 for status in 3 4 5 10 11 12; do said "$status" >wanted_err; aside "status $status" "$status" go s.pc im; done

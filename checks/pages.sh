@@ -12,8 +12,9 @@ for name in button order stops average; do
   # the section that names the program: its first block of code, and the first and last cells of its table
   awk -v name="$name.pc" '/^## / { if (text ~ "This is .*" name) printf "%s", text; text = "" } { text = text $0 "\n" }' "$page" >"$section"
   awk '/^```/ { n++; next } n == 1' "$section" | cmp -s - "$program" || wrong "$name: another program"
-  awk -F ' *[|] *' '/^[|] `/ { print $2 }' "$section" | tr -d '`' | cmp -s - "${program%.pc}.trace" || wrong "$name: another trace"
-  awk -F ' *[|] *' '/^[|] `/ { print $(NF - 1) }' "$section" | tr -d '`' | cmp -s - <(sed -n 's/^tick [0-9]*: //p' "${program%.pc}.meaning") || wrong "$name: other outputs"
+  cells() { awk -F ' *[|] *' -v from_the_end="$1" '/^[|] `/ { print from_the_end ? $(NF - 1) : $2 }' "$section" | tr -d '`'; }
+  cells 0 | cmp -s - "${program%.pc}.trace" || wrong "$name: another trace"
+  cells 1 | cmp -s - <(sed -n 's/^tick [0-9]*: //p' "${program%.pc}.meaning") || wrong "$name: other outputs"
 done
 # each rule has a row of its own in the table of rules
 for rule in Z{1..9} L{1..3} S1 N{1..8} E1 E2 T{1..4} C{1..4} I{1..10} K{1..7} A{1..7}; do

@@ -75,6 +75,11 @@ printf '// \xc3\xa4\nint x = 0;\nvoid main() {\n\t/* \xc3\xa4 */ y = 1;\n}\n' >s
 echo "refused N2 41 42" >wanted
 { echo "pretc: s.pc, line 4, column 10: N2"; printf '  4 | \t/* \xc3\xa4 */ y = 1;\n    | \t        ^\n'; said N2; } >wanted_err
 front "several lines" 1 rules s.pc
+# the line before, where the token is the first of its line
+printf 'int x = 0;\nvoid main() {\n  x = x + 1\n\n  EOT;\n}\n' >s.pc
+echo "refused S1 40 43" >wanted
+{ printf 'pretc: s.pc, line 5, column 3: S1\n  3 |   x = x + 1\n  5 |   EOT;\n    |   ^^^\n'; said S1; } >wanted_err
+front "a token that is first on its line" 1 rules s.pc
 # what C has and PRET-C hasn't: by the mark at the place, or by a word of the line outside of comments
 here() {
   printf '%s\n' "$2" >s.pc

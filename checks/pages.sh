@@ -20,6 +20,10 @@ done
 for rule in Z{1..9} L{1..3} S1 N{1..8} E1 E2 T{1..4} C{1..4} I{1..10} K{1..7} A{1..7}; do
   [ "$(grep -c "^| $rule |" "$top/docs/rules.md")" = 1 ] || wrong "docs/rules.md: $rule hasn't one row"
 done
+# every folder and file of the crates that a page names is there
+while read -r path; do
+  [ -e "$top/$path" ] || wrong "the pages name $path, which isn't there"
+done < <(cd "$top" && grep -ohE '`crates/[A-Za-z0-9_/.-]+`' README.md docs/*.md | tr -d '`' | sort -u)
 # every link between the pages goes somewhere
 while IFS=: read -r file link; do
   [ -e "$(dirname "$top/$file")/${link%%#*}" ] || wrong "$file: no $link"

@@ -1,0 +1,24 @@
+//! What a certificate asks, and what it is worth: where all demands hold, no free tick traps or is charged more than the
+//! bound, and no tick of a run is charged more than the bound or traps but at a bad address.
+//!
+//! Read `Words`, `Kinds`, `Sums`, `Shape`, `Acceptance` and `Bounded` in `specs/` in this order; `docs/bounds.md` says the
+//! same in words. The functions below do nothing: their contracts are the theorem.
+#![tactic(auto)]
+
+mod word;
+
+ghost use Rattle.tk_bound.specs.Bounded.{FreeTicksAreBounded, RunsAreBounded};
+
+pub use word::Word;
+
+/// Where all demands hold of an image, a certificate and a cost table, whoever made them, no free tick traps, and none is
+/// charged more than the bound, finished or not, whatever its configuration and choices.
+pub fn a_yes_bounds_free_ticks()
+    ensures { FreeTicksAreBounded }
+{}
+
+/// Then no tick of a run is charged more than the bound either, with any limits that are at least the bound, and the only
+/// trap is a bad address.
+pub fn a_yes_bounds_runs()
+    ensures { RunsAreBounded }
+{}

@@ -1,5 +1,6 @@
 -- Which sources keep every rule, and the first rule that another breaks: docs/language.md, "The verdict".
 use Rattle.std.specs.Prelude.{ℕ, List, Result, Ok, Err}
+use Rattle.pt_base.specs.First.{IsFirst}
 use Rattle.pt_base.specs.declared.Rule.{Rule}
 use Rattle.pt_base.specs.declared.Span.{Span}
 use Rattle.pt_base.specs.declared.Refusal.{Refusal}
@@ -21,7 +22,7 @@ pub record IsAccepted (text : List ℕ) (program : Program) (typing : Typing) : 
 -- The first rule that the text breaks, by size, tokens, grammar, names, loops and limits in this order, and its place.
 pub data BreaksFirst (text : List ℕ) (rule : Rule) (span : Span) : Type 0 where
   no_program : Breaks text rule span → BreaksFirst text rule span
-  name_broken : (program : Program) → IsSource text program → names.IsFirst (names.Breaks program.items program.length) rule span → BreaksFirst text rule span
+  name_broken : (program : Program) → IsSource text program → IsFirst (names.Breaks program.items program.length) rule span → BreaksFirst text rule span
   rule_broken : (program : Program) (typing : Typing) → IsSource text program → Resolves program typing → IsVerdict typing rule span → BreaksFirst text rule span
 
 -- the verdict: the program, or the first rule that is broken

@@ -1,2 +1,9 @@
+pub mod Tree
+pub mod Values
+pub mod Outcomes
+pub mod Statements
+pub mod Runs
+pub mod Programs
+pub mod Promises
 pub mod Meaning
 pub mod Standing

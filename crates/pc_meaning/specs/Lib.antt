@@ -5,5 +5,8 @@ pub mod Statements
 pub mod Runs
 pub mod Programs
 pub mod Promises
+pub mod Cells
+pub mod Lefts
+pub mod Moments
 pub mod Meaning
 pub mod Standing

@@ -49,6 +49,11 @@ abbrev pub is_output : CellKind → Bool
 is_output Output = true
 is_output _ = false
 
+-- an input, or an output
+abbrev pub wanted : Bool → CellKind → Bool
+wanted true = is_input
+wanted false = is_output
+
 -- the places of the cells of a kind
 abbrev pub chosen : (CellKind → Bool) → List Cell → List Room → List ℕ
 chosen test [] rooms = []

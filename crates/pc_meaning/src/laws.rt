@@ -30,7 +30,8 @@ pub fn what_cannot_finish_pauses()
 
 /// A statement without `EOT`, `PAR` and abort never pauses.
 pub fn a_routine_never_pauses()
-    ensures { (routines : List Routine) (known : Known) (s : Statement) → pauses s ≡ false → (store : Store) → IsDone (start routines known s store) }
+    ensures { (routines : List Routine) (known : Known) (s : Statement) → pauses s ≡ false → (store : Store) →
+        IsDone (start routines known s store) }
 {}
 
 /// The statement that the meaning takes holds a pause exactly where that of the program does.

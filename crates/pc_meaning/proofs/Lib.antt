@@ -1,1 +1,15 @@
+pub mod Lookups
+pub mod Pausing
+pub mod Functions
+pub mod Trees
+pub mod Bridge
+pub mod Rolled
+pub mod Leaving
+pub mod Known
+pub mod Copying
+pub mod Cost
+pub mod Threads
+pub mod Calling
+pub mod Choosing
+pub mod Going
 pub mod Ticks

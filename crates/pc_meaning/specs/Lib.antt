@@ -1,2 +1,12 @@
+pub mod Tree
+pub mod Values
+pub mod Outcomes
+pub mod Statements
+pub mod Runs
+pub mod Programs
+pub mod Promises
+pub mod Cells
+pub mod Lefts
+pub mod Moments
 pub mod Meaning
 pub mod Standing

@@ -1,9 +1,29 @@
-//! The meaning of programs, run slowly.
+//! The meaning of programs: `docs/language.md`, "The meaning of a program".
 //!
-//! Its contract: `meaning` gives the outputs of each tick as `docs/language.md`, "The meaning of a
-//! program", defines them, by walking over the statements.
+//! The definitions are `specs/Tree.antt`, `Values`, `Outcomes`, `Statements` and `Runs`, in this order; `specs/Programs.antt`
+//! takes a program with numbers for names there. `Meaning` keeps a program between two ticks, and its contract is that each
+//! tick is that of the definition; `meaning_of` gives the outputs of all ticks. The functions that begin with `a_`, `more_`
+//! and `what_` are laws. `run.rt` and `specs/Meaning.antt` have the meaning of small programs alone.
 #![tactic(auto)]
 
+mod cells;
+mod laws;
+mod layout;
+mod lefts;
+mod places;
+mod resuming;
 mod run;
+mod standing;
+mod starting;
+mod state;
+mod ticking;
+mod values;
+mod writes;
 
+pub use laws::{
+    a_function_does_its_body, a_routine_never_pauses, a_tree_finishes_alike, a_tree_pauses_alike,
+    more_functions_change_nothing, what_cannot_finish_pauses,
+};
+pub use places::Room;
 pub use run::{inputs, meaning, outputs, starts};
+pub use state::{Meaning, meaning_of};

@@ -27,3 +27,4 @@ pub mod Turns
 pub mod Controls
 pub mod Turned
 pub mod Bounds
+pub mod Worst

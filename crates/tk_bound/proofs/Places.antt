@@ -1,5 +1,5 @@
 -- What acceptance says of the places of an image.
-use Rattle.std.proofs.Common.{◌≡◌, ◌≤◌, ◌<◌, ◌+◌, ◌==◌, ℕ, ℤ, zero, suc, Bool, true, false, not, nat_le, if◌then◌else◌, List, [], ◌∷◌, ◌++◌, map, flat_map, reverse, length, Option, Some, None, refl, sym, ap, ◌∙◌, subst, ⊎_elim, arith, eqb-true, eq-eqb, add-one}
+use Rattle.std.proofs.Common.{◌≡◌, ◌≤◌, ◌<◌, ◌+◌, ◌==◌, ℕ, ℤ, zero, suc, Bool, true, false, not, nat_le, if◌then◌else◌, List, [], ◌∷◌, ◌++◌, map, flat_map, reverse, length, Option, Some, None, option_map, refl, sym, ap, ◌∙◌, subst, ⊎_elim, arith, eqb-true, eq-eqb, add-one}
 use Rattle.std.proofs.lemmas.Bool.{and_parts, false≢true, both_ways, not-true, cases_lt}
 use Rattle.std.proofs.lemmas.List.{get_or_past}
 use Rattle.std.proofs.lemmas.Option.{none-some, same_Some}
@@ -17,7 +17,7 @@ use Rattle.tk_cert.specs.Demands.{Demand, shape_demand, AllHold}
 use Rattle.tk_bound.specs.declared.word.Word.{Word}
 use Rattle.tk_bound.specs.declared.word.Word.TheVariants.{Imm}
 use Rattle.tk_bound.specs.Words.{word_of, instr_at, read_instr}
-use Rattle.tk_bound.specs.Kinds.{line_at, is_thread, loops_of, upper_behind, upper_at, word_at, places_of, start_of, points_at, asked_by_aborts, asked_by_word, asked_from_line, asked_from, asked, is_asked}
+use Rattle.tk_bound.specs.Kinds.{line_at, is_thread, loops_of, upper_behind, upper_at, word_at, word_in, places_of, start_of, points_at, asked_by_aborts, asked_by_word, asked_from_line, asked_from, asked, is_asked}
 use Rattle.tk_bound.specs.Shape.{may_follow, keeps_kind, word_is_shaped, says_well, line_is_shaped, pause_is_shaped, fork_is_shaped, place_is_shaped, shape, apart}
 use Rattle.tk_bound.specs.Acceptance.{edges, pauses, forks, resuming, bounded}
 use Rattle.tk_bound.proofs.Inner.{Image}
@@ -51,6 +51,15 @@ upper-read image place up line (Some i) w s e = by (is_barred up i) e
     by : (b : Bool) → (if b then None else Some (word_of image place up i)) ≡ Some w → upper_behind line (Some i) ≡ upper_of w
     by true q = absurd (none-some w q)
     by false q = upper-instr image place up line i s ∙ ap upper_of (same_Some (word_of image place up i) w q)
+
+-- a word that is read is what its instruction comes to
+in-word : (image : Parts) (place : ℕ) (up : Option ℤ) (o : Option Instr) (w : Word) → read_instr image place up o ≡ Some w → option_map (word_of image place up) o ≡ Some w
+in-word image place up None w e = absurd (none-some w e)
+in-word image place up (Some i) w e = by (is_barred up i) e
+  where
+    by : (b : Bool) → (if b then None else Some (word_of image place up i)) ≡ Some w → Some (word_of image place up i) ≡ Some w
+    by true q = absurd (none-some w q)
+    by false q = q
 
 upper-word : (line : Line) (o : Option Instr) (u : ℤ) → upper_behind line o ≡ Some u → IsSpoken line × (o ≡ Some (instr.Imm u))
 upper-word line.Bare o u h = absurd (none-some u h)
@@ -181,13 +190,13 @@ module _ (image : Parts) (cert : CertParts) (costs : List ℕ) (a : Accepts imag
   pub asked-plain : (place : ℕ) → IsAmong place (asked image cert.lines) → upper_at image cert.lines place ≡ None
   asked-plain place h = plain place (passes-any (λ goal. goal == place) (asked image cert.lines) place h (eq-eqb place place refl))
 
-  from-plain : (place goal : ℕ) (line : Line) → at_line place ≡ line → IsSpoken line → IsAmong goal (asked_by_aborts image line ++ asked_by_word image line (word_at image cert.lines place)) → IsAmong goal (asked_from_line image cert.lines place line)
+  from-plain : (place goal : ℕ) (line : Line) → at_line place ≡ line → IsSpoken line → IsAmong goal (asked_by_aborts image line ++ asked_by_word image line (word_in image cert.lines place)) → IsAmong goal (asked_from_line image cert.lines place line)
   from-plain place goal line.Bare e s h = absurd s
   from-plain place goal (line.Thread t b l v) e s h = h
   from-plain place goal (line.Routine g l v) e s h = h
   from-plain place goal (line.Cond v) e s h = h
 
-  place-plain : (place goal : ℕ) → IsSpoken (at_line place) → IsAmong goal (asked_by_aborts image (at_line place) ++ asked_by_word image (at_line place) (word_at image cert.lines place)) → upper_at image cert.lines goal ≡ None
+  place-plain : (place goal : ℕ) → IsSpoken (at_line place) → IsAmong goal (asked_by_aborts image (at_line place) ++ asked_by_word image (at_line place) (word_in image cert.lines place)) → upper_at image cert.lines goal ≡ None
   place-plain place goal s h =
       asked-plain goal (among-right goal (start_of image 0 ∷ map (λ (p : Point). p.at) image.pauses ++ map (λ (p : Point). p.at) image.forks) (flat_map (asked_from image cert.lines) (places_of image))
       (among-flat (asked_from image cert.lines) place goal (places_of image) (among-places place (inside-spoken place s)) (from-plain place goal (at_line place) refl s h)))
@@ -196,13 +205,13 @@ module _ (image : Parts) (cert : CertParts) (costs : List ℕ) (a : Accepts imag
   pub goal-plain : (place goal : ℕ) (line : Line) (w : Word) → at_line place ≡ line → IsSpoken line → word_at image cert.lines place ≡ Some w → IsAmong goal (asked_by_word image line (Some w)) → upper_at image cert.lines goal ≡ None
   goal-plain place goal line w e s q h =
       let A : Line → Option Word → Type 0 = λ x o. IsAmong goal (asked_by_word image x o) in
-      let h' : IsAmong goal (asked_by_word image (at_line place) (word_at image cert.lines place)) = subst (λ x. A x (word_at image cert.lines place)) (sym e) (subst (A line) (sym q) h) in
-      place-plain place goal (subst IsSpoken (sym e) s) (among-right goal (asked_by_aborts image (at_line place)) (asked_by_word image (at_line place) (word_at image cert.lines place)) h')
+      let h' : IsAmong goal (asked_by_word image (at_line place) (word_in image cert.lines place)) = subst (λ x. A x (word_in image cert.lines place)) (sym e) (subst (A line) (sym (in-word image place (upper_at image cert.lines place) (instr_at image place) w q)) h) in
+      place-plain place goal (subst IsSpoken (sym e) s) (among-right goal (asked_by_aborts image (at_line place)) (asked_by_word image (at_line place) (word_in image cert.lines place)) h')
 
   pub abort-plain : (place goal : ℕ) (line : Line) → at_line place ≡ line → IsSpoken line → IsAmong goal (asked_by_aborts image line) → upper_at image cert.lines goal ≡ None
   abort-plain place goal line e s h =
       let A : Line → Type 0 = λ x. IsAmong goal (asked_by_aborts image x) in
-      place-plain place goal (subst IsSpoken (sym e) s) (among-left goal (asked_by_aborts image (at_line place)) (asked_by_word image (at_line place) (word_at image cert.lines place)) (subst A (sym e) h))
+      place-plain place goal (subst IsSpoken (sym e) s) (among-left goal (asked_by_aborts image (at_line place)) (asked_by_word image (at_line place) (word_in image cert.lines place)) (subst A (sym e) h))
 
   -- the upper half behind a word
   pub next-upper : (place : ℕ) (line : Line) (w : Word) → at_line place ≡ line → IsSpoken line → word_at image cert.lines place ≡ Some w → upper_at image cert.lines (place + 1) ≡ upper_of w

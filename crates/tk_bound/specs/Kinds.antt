@@ -1,5 +1,5 @@
 -- What a certificate's lines say but for their numbers: docs/bounds.md, "Kinds".
-use Rattle.std.specs.Prelude.{ℕ, ℤ, zero, suc, ◌==◌, ◌&&◌, Bool, true, false, if◌then◌else◌, List, [], ◌∷◌, ◌++◌, map, length, slice_get, slice_index_or, Option, Some, None}
+use Rattle.std.specs.Prelude.{ℕ, ℤ, zero, suc, ◌==◌, ◌&&◌, Bool, true, false, if◌then◌else◌, List, [], ◌∷◌, ◌++◌, map, length, slice_get, slice_index_or, Option, Some, None, option_map}
 use Rattle.std.specs.List.{list_any, filter, flat_map, range_with_len}
 use Rattle.mb_isa.specs.declared.Instr.{Instr}
 use Rattle.mb_isa.specs.declared.Instr.TheVariants as instr
@@ -11,7 +11,7 @@ use Rattle.tk_cert.specs.declared.cert.Line.{Line}
 use Rattle.tk_cert.specs.declared.cert.Line.TheVariants.{Bare, Thread, Routine, Cond}
 use Rattle.tk_bound.specs.declared.word.Word.{Word}
 use Rattle.tk_bound.specs.declared.word.Word.TheVariants.{Jump, Branch, Fork, Call, Next}
-use Rattle.tk_bound.specs.Words.{instr_at, read}
+use Rattle.tk_bound.specs.Words.{word_of, instr_at, read}
 
 -- the line of a place; a place without one has a line that says nothing
 abbrev pub line_at : List Line → ℕ → Line
@@ -105,10 +105,14 @@ asked_by_word image line (Some (Call to)) = to ∷ []
 asked_by_word image line (Some (Next to)) = if length (loops_of line) == 0 then [] else to ∷ []
 asked_by_word image line other = []
 
+-- what the instruction of a place comes to, whether or not it may follow the word before it
+abbrev pub word_in : Parts → List Line → ℕ → Option Word
+word_in image lines place = option_map (word_of image place (upper_at image lines place)) (instr_at image place)
+
 -- the places whose kind a place asks, but for the place after it
 abbrev pub asked_from_line : Parts → List Line → ℕ → Line → List ℕ
 asked_from_line image lines place Bare = []
-asked_from_line image lines place line = asked_by_aborts image line ++ asked_by_word image line (word_at image lines place)
+asked_from_line image lines place line = asked_by_aborts image line ++ asked_by_word image line (word_in image lines place)
 
 abbrev pub asked_from : Parts → List Line → ℕ → List ℕ
 asked_from image lines place = asked_from_line image lines place (line_at lines place)

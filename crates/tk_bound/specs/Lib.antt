@@ -4,3 +4,4 @@ pub mod Sums
 pub mod Shape
 pub mod Acceptance
 pub mod Bounded
+pub mod Walks

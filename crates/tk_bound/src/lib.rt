@@ -1,13 +1,14 @@
 //! What a certificate asks, and what it is worth: where all demands hold, no free tick traps or is charged more than the
 //! bound, and no tick of a run is charged more than the bound or traps but at a bad address.
 //!
-//! Read `Words`, `Kinds`, `Sums`, `Shape`, `Acceptance` and `Bounded` in `specs/` in this order; `docs/bounds.md` says the
+//! Read `Words`, `Kinds`, `Sums`, `Shape`, `Acceptance`, `Bounded` and `Walks` in `specs/` in this order; `docs/bounds.md` says the
 //! same in words. The functions below do nothing: their contracts are the theorem.
 #![tactic(auto)]
 
 mod word;
 
 ghost use Rattle.tk_bound.specs.Bounded.{FreeTicksAreBounded, RunsAreBounded};
+ghost use Rattle.tk_bound.specs.Walks.{ReachedIsWorst};
 
 pub use word::Word;
 
@@ -21,4 +22,9 @@ pub fn a_yes_bounds_free_ticks()
 /// trap is a bad address.
 pub fn a_yes_bounds_runs()
     ensures { RunsAreBounded }
+{}
+
+/// And where the certificate's walk costs the bound, the bound is the worst of the image.
+pub fn a_reached_bound_is_worst()
+    ensures { ReachedIsWorst }
 {}

@@ -3,7 +3,7 @@ ghost use Rattle.pc_print.specs.Parts.{text};
 ghost use Rattle.pc_print.specs.Canonical.{reactive, type_name, declared, listed, more_listed, behind_comma, in_parentheses, start_value, local, locals, returned, scalar_line, array_line, typed, head_line, item, items, item_text, program_text};
 
 use crate::expressions::put_expression;
-use crate::lines::{put_equals, put_line_end, put_margin, put_mark_line, put_stop, split};
+use crate::lines::{put_equals, put_line_end, put_margin, put_mark_line, put_stop};
 use crate::marks::{put_blank, put_mark, put_signed, put_word};
 use crate::statements::put_statements;
 use pc_ast::{CellKind, Expr, Item, Word};
@@ -91,7 +91,7 @@ fn put_more_parameters(out: &mut Vec<u8>, rest: &[Word]) -> Result<(), Memory>
 fn put_parameters(out: &mut Vec<u8>, parameters: &[Word]) -> Result<(), Memory>
     ensures { OnOk result (out.new.items ≡ out.old.items ++ text (listed declared parameters.now)) }
 {
-    let Some((head, rest)) = split(parameters) else {
+    let Some((head, rest)) = parameters.split_first() else {
         return Ok(());
     };
     put_declared(out, head)?;

@@ -1,4 +1,4 @@
-ghost use Rattle.std.specs.Prelude.{◌≡◌, ◌+◌, [], ◌∷◌, ◌++◌, OnOk, IfOk, MatchOption};
+ghost use Rattle.std.specs.Prelude.{◌≡◌, ◌+◌, [], ◌∷◌, ◌++◌, OnOk, IfOk};
 ghost use Rattle.pc_lex.specs.Spelling.{spelling_of};
 ghost use Rattle.pc_print.specs.Parts.{text, mark, blanks};
 ghost use Rattle.pc_print.specs.Canonical.{expression, in_parentheses, listed, more_listed, behind_comma, named, line, goal, equals, most_turns, weakly, pause_line, assignment_line, call_line, threads_line, if_line, while_line, abort_line, when_line};
@@ -106,23 +106,12 @@ fn put_further_argument(out: &mut Vec<u8>, e: &Expr<Word>) -> Result<(), Memory>
     put_expression(out, e)
 }
 
-/// The first item, and those after it.
-pub fn split<T>(items: &[T]) -> Option<(&T, &[T])>
-    ensures { MatchOption result (items.now ≡ []) (λ p. items.now ≡ p.0.now ∷ p.1.now) }
-{
-    if items.len() == 0 {
-        None
-    } else {
-        Some((&items[0], &items[1..]))
-    }
-}
-
 /// Puts arguments with commas between them at the end.
 #[tactic(auto, using(crate::proofs::Pieces::pieces_are))]
 fn put_arguments(out: &mut Vec<u8>, arguments: &[Expr<Word>]) -> Result<(), Memory>
     ensures { OnOk result (out.new.items ≡ out.old.items ++ text (listed expression arguments.now)) }
 {
-    let Some((head, rest)) = split(arguments) else {
+    let Some((head, rest)) = arguments.split_first() else {
         return Ok(());
     };
     put_expression(out, head)?;
@@ -154,7 +143,7 @@ fn put_further_name(out: &mut Vec<u8>, name: &Word) -> Result<(), Memory>
 fn put_names(out: &mut Vec<u8>, names: &[Word]) -> Result<(), Memory>
     ensures { OnOk result (out.new.items ≡ out.old.items ++ text (listed named names.now)) }
 {
-    let Some((head, rest)) = split(names) else {
+    let Some((head, rest)) = names.split_first() else {
         return Ok(());
     };
     put_word(out, head)?;

@@ -1,5 +1,1 @@
-pub mod Waking
-pub mod Keeping
-pub mod Turning
-pub mod Beginning
-pub mod PlainWords
+pub mod Phases

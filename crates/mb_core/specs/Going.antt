@@ -1,12 +1,15 @@
 -- What the machine's calls tell.
 use Rattle.std.specs.Prelude.{◌≡◌, ℕ, ℤ, Bool, true, false, IsTrue, Option, Some, None, Result, Ok, Err}
 use Rattle.mb_isa.specs.declared.Class.{Class}
+use Rattle.mb_isa.specs.declared.Instr.{Instr}
 use Rattle.mb_pfu.specs.declared.TrapKind.{TrapKind}
+use Rattle.mb_pfu.specs.declared.TrapKind.TheVariants.{OutOfCode}
+use Rattle.pt_image.specs.declared.Parts.{Parts}
 use Rattle.mb_pfu.specs.Rows.{is_ready}
 use Rattle.mb_pfu.specs.Tree.{slot_of}
 use Rattle.mb_pfu.specs.Unit.{State}
 use Rattle.mb_step.specs.Control.{Control, Who, Turn, Condition, goes, turns_on, tests_on, answered}
-use Rattle.mb_step.specs.Words.{Plan, Refuse, Go}
+use Rattle.mb_step.specs.Words.{Plan, Refuse, Go, plan_decoded}
 use Rattle.mb_step.specs.Step.{Rules, Stepped, Moves, Traps, samples_on}
 use Rattle.mb_step.specs.Cells.{Cells}
 use Rattle.mb_core.specs.declared.parts.To.{To}
@@ -21,6 +24,11 @@ DoesWork (Some next) done new = (done ≡ true) × (new ≡ next)
 abbrev pub who_of : Option ℕ → Who
 who_of None = Condition
 who_of (Some s) = Turn s
+
+-- the step of a word that was looked up and decoded
+abbrev pub plan_found : Parts → Who → ℕ → Option ℤ → State → Option (Option Instr) → Plan
+plan_found image who place upper u None = Refuse OutOfCode
+plan_found image who place upper u (Some word) = plan_decoded image who place upper u word
 
 -- the machine's state
 pub record CoreState : Type 0 where

@@ -1,4 +1,4 @@
-ghost use Rattle.std.specs.Prelude.{◌≡◌, ◌≤◌, ◌<◌, ◌+◌, ◌^◌, ℕ, ℤ, List, Option, IsTrue, is_some, IfSome, Some, None, Ok, length, slice_get};
+ghost use Rattle.std.specs.Prelude.{◌≡◌, ◌≤◌, ◌<◌, ◌+◌, ◌^◌, ℕ, ℤ, List, Option, IsTrue, is_some, IfSome, Some, None, Ok, length, pos, replicate, slice_get};
 ghost use Rattle.mb_pfu.specs.Rows.{is_ready};
 ghost use Rattle.mb_pfu.specs.Tree.{slot_of, next_test};
 ghost use Rattle.mb_isa.specs.declared.Instr.TheVariants as words;
@@ -8,18 +8,18 @@ ghost use Rattle.mb_step.specs.Words.{Work, Branch, plan_of, plan_word, branched
 ghost use Rattle.mb_step.specs.Step.{stepped, led};
 ghost use Rattle.mb_step.specs.Cells.{machine, word_at};
 ghost use Rattle.mb_step.specs.Tick.{begun};
-ghost use Rattle.mb_core.specs.Going.{who_of, went, came, targeted, IsStillReady, Keeps};
+ghost use Rattle.mb_core.specs.Going.{plan_found, who_of, went, came, targeted, IsStillReady, Keeps};
 
 use crate::parts::{To, Went};
+use crate::loading::Loaded;
 use crate::store::{Store, sample};
 use crate::unit_words::{
     abrt, call, drop_word, end, eot, fork_word, leave_word, loop_word, next, ret,
 };
 use mb_isa::{
-    Class, Costs, Instr, Reg, branch_place, class, decode, immediate, takes_upper, turns,
+    Class, Costs, Instr, Reg, branch_place, class, immediate, takes_upper, turns,
 };
-use mb_pfu::{TrapKind, Unit};
-use pt_image::Image;
+use mb_pfu::{Slot, TrapKind, Unit};
 use std::marker::Model;
 
 /// The registers and the memory, the unit, and the upper half that stands.
@@ -44,10 +44,21 @@ impl Model for Core {
 }
 
 impl Core {
+    /// The loaded state: all registers are 0, and no upper half stands.
+    pub fn of(memory: Vec<i32>, unit: Unit) -> Core
+        ensures { result ≡ record { cells = record { registers = replicate 32 (pos 0); memory = memory.items }; unit = unit; upper = None } }
+    {
+        Core {
+            store: Store::of(memory),
+            unit,
+            upper: None,
+        }
+    }
+
     // The data do a word.
     fn work(
         &mut self,
-        image: &Image,
+        loaded: &Loaded,
         costs: &Costs,
         slot: Option<u32>,
         place: u32,
@@ -55,7 +66,7 @@ impl Core {
     ) -> Result<Went, TrapKind>
         requires low { place < 2 ^ 20 }
         requires ready { IfSome slot (λ s. IsTrue (is_ready (slot_of s self.old.unit.tree))) }
-        ensures step { (values : List ℤ) → stepped (machine image.now values) costs.now self.old.cells (Work i self.old.upper (goes (who_of slot) (place + 1) self.old.unit)) ≡ went (machine image.now values) slot result self.new }
+        ensures step { (values : List ℤ) → stepped (machine loaded.now values) costs.now self.old.cells (Work i self.old.upper (goes (who_of slot) (place + 1) self.old.unit)) ≡ went (machine loaded.now values) slot result self.new }
         ensures kept { Keeps slot self.old.unit result self.new.unit }
     {
         let charge = costs.cost(class(&i, false));
@@ -70,11 +81,11 @@ impl Core {
     }
 
     // The place to which a branch leads, if it is one of the code.
-    fn target(&self, image: &Image, place: u32, imm: i16) -> Option<u32>
+    fn target(&self, loaded: &Loaded, place: u32, imm: i16) -> Option<u32>
         requires low { place < 2 ^ 20 }
-        ensures { (slot : Option ℕ) → branched image.now (who_of slot) place self.now.upper self.now.unit imm ≡ targeted slot result self.now.unit }
+        ensures { (slot : Option ℕ) → branched loaded.now (who_of slot) place self.now.upper self.now.unit imm ≡ targeted slot result self.now.unit }
     {
-        branch_place(image.code().len(), place, immediate(self.upper, imm))
+        branch_place(loaded.image().code().len(), place, immediate(self.upper, imm))
     }
 
     // It goes on at the next word.
@@ -93,7 +104,7 @@ impl Core {
     // It goes on where a branch leads that is taken.
     fn lead(
         &mut self,
-        image: &Image,
+        loaded: &Loaded,
         costs: &Costs,
         slot: Option<u32>,
         place: u32,
@@ -101,10 +112,10 @@ impl Core {
     ) -> Result<Went, TrapKind>
         requires low { place < 2 ^ 20 }
         requires ready { IfSome slot (λ s. IsTrue (is_ready (slot_of s self.old.unit.tree))) }
-        ensures step { (values : List ℤ) → led (machine image.now values) costs.now (branched image.now (who_of slot) place self.old.upper self.old.unit imm) self.old.cells ≡ went (machine image.now values) slot result self.new }
+        ensures step { (values : List ℤ) → led (machine loaded.now values) costs.now (branched loaded.now (who_of slot) place self.old.upper self.old.unit imm) self.old.cells ≡ went (machine loaded.now values) slot result self.new }
         ensures kept { Keeps slot self.old.unit result self.new.unit }
     {
-        match self.target(image, place, imm) {
+        match self.target(loaded, place, imm) {
             None => Err(TrapKind::OutOfCode),
             Some(to) => {
                 self.upper = None;
@@ -119,7 +130,7 @@ impl Core {
     // `bri`.
     fn jump(
         &mut self,
-        image: &Image,
+        loaded: &Loaded,
         costs: &Costs,
         slot: Option<u32>,
         place: u32,
@@ -127,10 +138,10 @@ impl Core {
     ) -> Result<Went, TrapKind>
         requires low { place < 2 ^ 20 }
         requires ready { IfSome slot (λ s. IsTrue (is_ready (slot_of s self.old.unit.tree))) }
-        ensures step { (values : List ℤ) → stepped (machine image.now values) costs.now self.old.cells (plan_of image.now (who_of slot) place self.old.upper self.old.unit (words.Bri imm)) ≡ went (machine image.now values) slot result self.new }
+        ensures step { (values : List ℤ) → stepped (machine loaded.now values) costs.now self.old.cells (plan_of loaded.now (who_of slot) place self.old.upper self.old.unit (words.Bri imm)) ≡ went (machine loaded.now values) slot result self.new }
         ensures kept { Keeps slot self.old.unit result self.new.unit }
     {
-        match self.target(image, place, imm) {
+        match self.target(loaded, place, imm) {
             None => Err(TrapKind::OutOfCode),
             Some(to) => {
                 self.upper = None;
@@ -145,7 +156,7 @@ impl Core {
     // A conditional branch.
     fn branch(
         &mut self,
-        image: &Image,
+        loaded: &Loaded,
         costs: &Costs,
         slot: Option<u32>,
         place: u32,
@@ -154,11 +165,11 @@ impl Core {
     ) -> Result<Went, TrapKind>
         requires low { place < 2 ^ 20 }
         requires ready { IfSome slot (λ s. IsTrue (is_ready (slot_of s self.old.unit.tree))) }
-        ensures step { (values : List ℤ) → stepped (machine image.now values) costs.now self.old.cells (Branch i (branched image.now (who_of slot) place self.old.upper self.old.unit imm) (goes (who_of slot) (place + 1) self.old.unit)) ≡ went (machine image.now values) slot result self.new }
+        ensures step { (values : List ℤ) → stepped (machine loaded.now values) costs.now self.old.cells (Branch i (branched loaded.now (who_of slot) place self.old.upper self.old.unit imm) (goes (who_of slot) (place + 1) self.old.unit)) ≡ went (machine loaded.now values) slot result self.new }
         ensures kept { Keeps slot self.old.unit result self.new.unit }
     {
         if self.store.is_taken(i) {
-            return self.lead(image, costs, slot, place, imm);
+            return self.lead(loaded, costs, slot, place, imm);
         }
         self.pass(costs.cost(Class::Untaken), place, None)
     }
@@ -166,7 +177,7 @@ impl Core {
     // `imm`.
     fn imm(
         &mut self,
-        image: &Image,
+        loaded: &Loaded,
         costs: &Costs,
         slot: Option<u32>,
         place: u32,
@@ -174,7 +185,7 @@ impl Core {
     ) -> Result<Went, TrapKind>
         requires low { place < 2 ^ 20 }
         requires ready { IfSome slot (λ s. IsTrue (is_ready (slot_of s self.old.unit.tree))) }
-        ensures step { (values : List ℤ) → stepped (machine image.now values) costs.now self.old.cells (plan_of image.now (who_of slot) place self.old.upper self.old.unit (words.Imm imm)) ≡ went (machine image.now values) slot result self.new }
+        ensures step { (values : List ℤ) → stepped (machine loaded.now values) costs.now self.old.cells (plan_of loaded.now (who_of slot) place self.old.upper self.old.unit (words.Imm imm)) ≡ went (machine loaded.now values) slot result self.new }
         ensures kept { Keeps slot self.old.unit result self.new.unit }
     {
         self.pass(costs.cost(Class::Imm), place, Some(imm))
@@ -183,14 +194,14 @@ impl Core {
     // `cend`.
     fn cend(
         &mut self,
-        image: &Image,
+        loaded: &Loaded,
         costs: &Costs,
         slot: Option<u32>,
         place: u32,
         ra: Reg,
     ) -> Result<Went, TrapKind>
         requires ready { IfSome slot (λ s. IsTrue (is_ready (slot_of s self.old.unit.tree))) }
-        ensures step { (values : List ℤ) → stepped (machine image.now values) costs.now self.old.cells (plan_of image.now (who_of slot) place self.old.upper self.old.unit (words.Cend ra)) ≡ went (machine image.now values) slot result self.new }
+        ensures step { (values : List ℤ) → stepped (machine loaded.now values) costs.now self.old.cells (plan_of loaded.now (who_of slot) place self.old.upper self.old.unit (words.Cend ra)) ≡ went (machine loaded.now values) slot result self.new }
         ensures kept { Keeps slot self.old.unit result self.new.unit }
     {
         match slot {
@@ -205,14 +216,14 @@ impl Core {
     // A unit word has been done, or refused.
     fn come(
         &mut self,
-        image: &Image,
+        loaded: &Loaded,
         costs: &Costs,
         s: u32,
         kind: Class,
         did: Result<Option<u32>, TrapKind>,
     ) -> Result<Went, TrapKind>
         requires ready { IsStillReady s did self.old.unit }
-        ensures step { (values : List ℤ) → stepped (machine image.now values) costs.now self.old.cells (came kind s did self.old.unit) ≡ went (machine image.now values) (Some s) result self.new }
+        ensures step { (values : List ℤ) → stepped (machine loaded.now values) costs.now self.old.cells (came kind s did self.old.unit) ≡ went (machine loaded.now values) (Some s) result self.new }
         ensures kept { Keeps (Some s) self.old.unit result self.new.unit }
     {
         match did {
@@ -234,21 +245,21 @@ impl Core {
     // `end`.
     fn end_in(
         &mut self,
-        image: &Image,
+        loaded: &Loaded,
         costs: &Costs,
         slot: Option<u32>,
         place: u32,
     ) -> Result<Went, TrapKind>
         requires low { place < 2 ^ 20 }
         requires ready { IfSome slot (λ s. IsTrue (is_ready (slot_of s self.old.unit.tree))) }
-        ensures step { (values : List ℤ) → stepped (machine image.now values) costs.now self.old.cells (plan_of image.now (who_of slot) place self.old.upper self.old.unit words.End) ≡ went (machine image.now values) slot result self.new }
+        ensures step { (values : List ℤ) → stepped (machine loaded.now values) costs.now self.old.cells (plan_of loaded.now (who_of slot) place self.old.upper self.old.unit words.End) ≡ went (machine loaded.now values) slot result self.new }
         ensures kept { Keeps slot self.old.unit result self.new.unit }
     {
         match slot {
             None => Err(TrapKind::WrongPlace),
             Some(s) => {
-                let did = end(&mut self.unit, image, s, place);
-                self.come(image, costs, s, Class::End, did)
+                let did = end(&mut self.unit, loaded, s, place);
+                self.come(loaded, costs, s, Class::End, did)
             }
         }
     }
@@ -256,21 +267,21 @@ impl Core {
     // `leave`.
     fn leave_in(
         &mut self,
-        image: &Image,
+        loaded: &Loaded,
         costs: &Costs,
         slot: Option<u32>,
         place: u32,
     ) -> Result<Went, TrapKind>
         requires low { place < 2 ^ 20 }
         requires ready { IfSome slot (λ s. IsTrue (is_ready (slot_of s self.old.unit.tree))) }
-        ensures step { (values : List ℤ) → stepped (machine image.now values) costs.now self.old.cells (plan_of image.now (who_of slot) place self.old.upper self.old.unit words.Leave) ≡ went (machine image.now values) slot result self.new }
+        ensures step { (values : List ℤ) → stepped (machine loaded.now values) costs.now self.old.cells (plan_of loaded.now (who_of slot) place self.old.upper self.old.unit words.Leave) ≡ went (machine loaded.now values) slot result self.new }
         ensures kept { Keeps slot self.old.unit result self.new.unit }
     {
         match slot {
             None => Err(TrapKind::WrongPlace),
             Some(s) => {
-                let did = leave_word(&mut self.unit, image, s, place);
-                self.come(image, costs, s, Class::Leave, did)
+                let did = leave_word(&mut self.unit, loaded, s, place);
+                self.come(loaded, costs, s, Class::Leave, did)
             }
         }
     }
@@ -278,7 +289,7 @@ impl Core {
     // `abrt`.
     fn abrt_in(
         &mut self,
-        image: &Image,
+        loaded: &Loaded,
         costs: &Costs,
         slot: Option<u32>,
         place: u32,
@@ -286,14 +297,14 @@ impl Core {
     ) -> Result<Went, TrapKind>
         requires low { place < 2 ^ 20 }
         requires ready { IfSome slot (λ s. IsTrue (is_ready (slot_of s self.old.unit.tree))) }
-        ensures step { (values : List ℤ) → stepped (machine image.now values) costs.now self.old.cells (plan_of image.now (who_of slot) place self.old.upper self.old.unit (words.Abrt number)) ≡ went (machine image.now values) slot result self.new }
+        ensures step { (values : List ℤ) → stepped (machine loaded.now values) costs.now self.old.cells (plan_of loaded.now (who_of slot) place self.old.upper self.old.unit (words.Abrt number)) ≡ went (machine loaded.now values) slot result self.new }
         ensures kept { Keeps slot self.old.unit result self.new.unit }
     {
         match slot {
             None => Err(TrapKind::WrongPlace),
             Some(s) => {
-                let did = abrt(&mut self.unit, image, s, place, number);
-                self.come(image, costs, s, Class::Abrt, did)
+                let did = abrt(&mut self.unit, loaded, s, place, number);
+                self.come(loaded, costs, s, Class::Abrt, did)
             }
         }
     }
@@ -301,7 +312,7 @@ impl Core {
     // `call`.
     fn call_in(
         &mut self,
-        image: &Image,
+        loaded: &Loaded,
         costs: &Costs,
         slot: Option<u32>,
         place: u32,
@@ -309,14 +320,14 @@ impl Core {
     ) -> Result<Went, TrapKind>
         requires low { place < 2 ^ 20 }
         requires ready { IfSome slot (λ s. IsTrue (is_ready (slot_of s self.old.unit.tree))) }
-        ensures step { (values : List ℤ) → stepped (machine image.now values) costs.now self.old.cells (plan_of image.now (who_of slot) place self.old.upper self.old.unit (words.Call target)) ≡ went (machine image.now values) slot result self.new }
+        ensures step { (values : List ℤ) → stepped (machine loaded.now values) costs.now self.old.cells (plan_of loaded.now (who_of slot) place self.old.upper self.old.unit (words.Call target)) ≡ went (machine loaded.now values) slot result self.new }
         ensures kept { Keeps slot self.old.unit result self.new.unit }
     {
         match slot {
             None => Err(TrapKind::WrongPlace),
             Some(s) => {
-                let did = call(&mut self.unit, image, s, place, target);
-                self.come(image, costs, s, Class::Call, did)
+                let did = call(&mut self.unit, loaded, s, place, target);
+                self.come(loaded, costs, s, Class::Call, did)
             }
         }
     }
@@ -324,21 +335,21 @@ impl Core {
     // `ret`.
     fn ret_in(
         &mut self,
-        image: &Image,
+        loaded: &Loaded,
         costs: &Costs,
         slot: Option<u32>,
         place: u32,
     ) -> Result<Went, TrapKind>
         requires low { place < 2 ^ 20 }
         requires ready { IfSome slot (λ s. IsTrue (is_ready (slot_of s self.old.unit.tree))) }
-        ensures step { (values : List ℤ) → stepped (machine image.now values) costs.now self.old.cells (plan_of image.now (who_of slot) place self.old.upper self.old.unit words.Ret) ≡ went (machine image.now values) slot result self.new }
+        ensures step { (values : List ℤ) → stepped (machine loaded.now values) costs.now self.old.cells (plan_of loaded.now (who_of slot) place self.old.upper self.old.unit words.Ret) ≡ went (machine loaded.now values) slot result self.new }
         ensures kept { Keeps slot self.old.unit result self.new.unit }
     {
         match slot {
             None => Err(TrapKind::WrongPlace),
             Some(s) => {
-                let did = ret(&mut self.unit, image, s, place);
-                self.come(image, costs, s, Class::Ret, did)
+                let did = ret(&mut self.unit, loaded, s, place);
+                self.come(loaded, costs, s, Class::Ret, did)
             }
         }
     }
@@ -346,7 +357,7 @@ impl Core {
     // `next`.
     fn next_in(
         &mut self,
-        image: &Image,
+        loaded: &Loaded,
         costs: &Costs,
         slot: Option<u32>,
         place: u32,
@@ -354,14 +365,14 @@ impl Core {
     ) -> Result<Went, TrapKind>
         requires low { place < 2 ^ 20 }
         requires ready { IfSome slot (λ s. IsTrue (is_ready (slot_of s self.old.unit.tree))) }
-        ensures step { (values : List ℤ) → stepped (machine image.now values) costs.now self.old.cells (plan_of image.now (who_of slot) place self.old.upper self.old.unit (words.Next target)) ≡ went (machine image.now values) slot result self.new }
+        ensures step { (values : List ℤ) → stepped (machine loaded.now values) costs.now self.old.cells (plan_of loaded.now (who_of slot) place self.old.upper self.old.unit (words.Next target)) ≡ went (machine loaded.now values) slot result self.new }
         ensures kept { Keeps slot self.old.unit result self.new.unit }
     {
         match slot {
             None => Err(TrapKind::WrongPlace),
             Some(s) => {
-                let did = next(&mut self.unit, image, s, place, target);
-                self.come(image, costs, s, Class::Next, did)
+                let did = next(&mut self.unit, loaded, s, place, target);
+                self.come(loaded, costs, s, Class::Next, did)
             }
         }
     }
@@ -369,21 +380,21 @@ impl Core {
     // `drop`.
     fn drop_in(
         &mut self,
-        image: &Image,
+        loaded: &Loaded,
         costs: &Costs,
         slot: Option<u32>,
         place: u32,
     ) -> Result<Went, TrapKind>
         requires low { place < 2 ^ 20 }
         requires ready { IfSome slot (λ s. IsTrue (is_ready (slot_of s self.old.unit.tree))) }
-        ensures step { (values : List ℤ) → stepped (machine image.now values) costs.now self.old.cells (plan_of image.now (who_of slot) place self.old.upper self.old.unit words.Drop) ≡ went (machine image.now values) slot result self.new }
+        ensures step { (values : List ℤ) → stepped (machine loaded.now values) costs.now self.old.cells (plan_of loaded.now (who_of slot) place self.old.upper self.old.unit words.Drop) ≡ went (machine loaded.now values) slot result self.new }
         ensures kept { Keeps slot self.old.unit result self.new.unit }
     {
         match slot {
             None => Err(TrapKind::WrongPlace),
             Some(s) => {
-                let did = drop_word(&mut self.unit, image, s, place);
-                self.come(image, costs, s, Class::Drop, did)
+                let did = drop_word(&mut self.unit, loaded, s, place);
+                self.come(loaded, costs, s, Class::Drop, did)
             }
         }
     }
@@ -391,7 +402,7 @@ impl Core {
     // `loop`.
     fn loop_in(
         &mut self,
-        image: &Image,
+        loaded: &Loaded,
         costs: &Costs,
         slot: Option<u32>,
         place: u32,
@@ -399,15 +410,15 @@ impl Core {
     ) -> Result<Went, TrapKind>
         requires low { place < 2 ^ 20 }
         requires ready { IfSome slot (λ s. IsTrue (is_ready (slot_of s self.old.unit.tree))) }
-        ensures step { (values : List ℤ) → stepped (machine image.now values) costs.now self.old.cells (plan_of image.now (who_of slot) place self.old.upper self.old.unit (words.Loop low)) ≡ went (machine image.now values) slot result self.new }
+        ensures step { (values : List ℤ) → stepped (machine loaded.now values) costs.now self.old.cells (plan_of loaded.now (who_of slot) place self.old.upper self.old.unit (words.Loop low)) ≡ went (machine loaded.now values) slot result self.new }
         ensures kept { Keeps slot self.old.unit result self.new.unit }
     {
         match slot {
             None => Err(TrapKind::WrongPlace),
             Some(s) => {
                 let turns = turns(self.upper, low);
-                let did = loop_word(&mut self.unit, image, s, place, turns, self.upper, low);
-                self.come(image, costs, s, Class::Loop, did)
+                let did = loop_word(&mut self.unit, loaded, s, place, turns, self.upper, low);
+                self.come(loaded, costs, s, Class::Loop, did)
             }
         }
     }
@@ -415,21 +426,21 @@ impl Core {
     // `eot`.
     fn eot_in(
         &mut self,
-        image: &Image,
+        loaded: &Loaded,
         costs: &Costs,
         slot: Option<u32>,
         place: u32,
     ) -> Result<Went, TrapKind>
         requires low { place < 2 ^ 20 }
         requires ready { IfSome slot (λ s. IsTrue (is_ready (slot_of s self.old.unit.tree))) }
-        ensures step { (values : List ℤ) → stepped (machine image.now values) costs.now self.old.cells (plan_of image.now (who_of slot) place self.old.upper self.old.unit words.Eot) ≡ went (machine image.now values) slot result self.new }
+        ensures step { (values : List ℤ) → stepped (machine loaded.now values) costs.now self.old.cells (plan_of loaded.now (who_of slot) place self.old.upper self.old.unit words.Eot) ≡ went (machine loaded.now values) slot result self.new }
         ensures kept { Keeps slot self.old.unit result self.new.unit }
     {
         match slot {
             None => Err(TrapKind::WrongPlace),
             Some(s) => {
-                let did = eot(&mut self.unit, image, s, place);
-                self.come(image, costs, s, Class::Eot, did)
+                let did = eot(&mut self.unit, loaded, s, place);
+                self.come(loaded, costs, s, Class::Eot, did)
             }
         }
     }
@@ -437,7 +448,7 @@ impl Core {
     // `fork`.
     fn fork_in(
         &mut self,
-        image: &Image,
+        loaded: &Loaded,
         costs: &Costs,
         slot: Option<u32>,
         place: u32,
@@ -446,14 +457,14 @@ impl Core {
     ) -> Result<Went, TrapKind>
         requires low { place < 2 ^ 20 }
         requires ready { IfSome slot (λ s. IsTrue (is_ready (slot_of s self.old.unit.tree))) }
-        ensures step { (values : List ℤ) → stepped (machine image.now values) costs.now self.old.cells (plan_of image.now (who_of slot) place self.old.upper self.old.unit (words.Fork lo count)) ≡ went (machine image.now values) slot result self.new }
+        ensures step { (values : List ℤ) → stepped (machine loaded.now values) costs.now self.old.cells (plan_of loaded.now (who_of slot) place self.old.upper self.old.unit (words.Fork lo count)) ≡ went (machine loaded.now values) slot result self.new }
         ensures kept { Keeps slot self.old.unit result self.new.unit }
     {
         match slot {
             None => Err(TrapKind::WrongPlace),
             Some(s) => {
-                let did = fork_word(&mut self.unit, image, s, place, lo, count);
-                self.come(image, costs, s, Class::Fork, did)
+                let did = fork_word(&mut self.unit, loaded, s, place, lo, count);
+                self.come(loaded, costs, s, Class::Fork, did)
             }
         }
     }
@@ -461,7 +472,7 @@ impl Core {
     // A word is done.
     fn word(
         &mut self,
-        image: &Image,
+        loaded: &Loaded,
         costs: &Costs,
         slot: Option<u32>,
         place: u32,
@@ -469,76 +480,95 @@ impl Core {
     ) -> Result<Went, TrapKind>
         requires low { place < 2 ^ 20 }
         requires ready { IfSome slot (λ s. IsTrue (is_ready (slot_of s self.old.unit.tree))) }
-        ensures step { (values : List ℤ) → stepped (machine image.now values) costs.now self.old.cells (plan_of image.now (who_of slot) place self.old.upper self.old.unit i) ≡ went (machine image.now values) slot result self.new }
+        ensures step { (values : List ℤ) → stepped (machine loaded.now values) costs.now self.old.cells (plan_of loaded.now (who_of slot) place self.old.upper self.old.unit i) ≡ went (machine loaded.now values) slot result self.new }
         ensures kept { Keeps slot self.old.unit result self.new.unit }
     {
         match i {
-            Instr::Addk { .. } => self.work(image, costs, slot, place, i),
-            Instr::Rsubk { .. } => self.work(image, costs, slot, place, i),
-            Instr::Cmp { .. } => self.work(image, costs, slot, place, i),
-            Instr::Or { .. } => self.work(image, costs, slot, place, i),
-            Instr::And { .. } => self.work(image, costs, slot, place, i),
-            Instr::Xor { .. } => self.work(image, costs, slot, place, i),
-            Instr::Mul { .. } => self.work(image, costs, slot, place, i),
-            Instr::Idiv { .. } => self.work(image, costs, slot, place, i),
-            Instr::Bsrl { .. } => self.work(image, costs, slot, place, i),
-            Instr::Bsra { .. } => self.work(image, costs, slot, place, i),
-            Instr::Bsll { .. } => self.work(image, costs, slot, place, i),
-            Instr::Addik { .. } => self.work(image, costs, slot, place, i),
-            Instr::Ori { .. } => self.work(image, costs, slot, place, i),
-            Instr::Andi { .. } => self.work(image, costs, slot, place, i),
-            Instr::Xori { .. } => self.work(image, costs, slot, place, i),
-            Instr::Lw { .. } => self.work(image, costs, slot, place, i),
-            Instr::Sw { .. } => self.work(image, costs, slot, place, i),
-            Instr::Lwi { .. } => self.work(image, costs, slot, place, i),
-            Instr::Swi { .. } => self.work(image, costs, slot, place, i),
-            Instr::Imm { imm } => self.imm(image, costs, slot, place, imm),
-            Instr::Bri { imm } => self.jump(image, costs, slot, place, imm),
-            Instr::Beqi { imm, .. } => self.branch(image, costs, slot, place, i, imm),
-            Instr::Bnei { imm, .. } => self.branch(image, costs, slot, place, i, imm),
-            Instr::Blti { imm, .. } => self.branch(image, costs, slot, place, i, imm),
-            Instr::Blei { imm, .. } => self.branch(image, costs, slot, place, i, imm),
-            Instr::Bgti { imm, .. } => self.branch(image, costs, slot, place, i, imm),
-            Instr::Bgei { imm, .. } => self.branch(image, costs, slot, place, i, imm),
-            Instr::Fork { lo, count } => self.fork_in(image, costs, slot, place, lo, count),
-            Instr::Eot => self.eot_in(image, costs, slot, place),
-            Instr::End => self.end_in(image, costs, slot, place),
-            Instr::Abrt { number } => self.abrt_in(image, costs, slot, place, number),
-            Instr::Leave => self.leave_in(image, costs, slot, place),
-            Instr::Call { target } => self.call_in(image, costs, slot, place, target),
-            Instr::Ret => self.ret_in(image, costs, slot, place),
-            Instr::Loop { turns } => self.loop_in(image, costs, slot, place, turns),
-            Instr::Next { target } => self.next_in(image, costs, slot, place, target),
-            Instr::Drop => self.drop_in(image, costs, slot, place),
-            Instr::Cend { ra } => self.cend(image, costs, slot, place, ra),
+            Instr::Addk { .. } => self.work(loaded, costs, slot, place, i),
+            Instr::Rsubk { .. } => self.work(loaded, costs, slot, place, i),
+            Instr::Cmp { .. } => self.work(loaded, costs, slot, place, i),
+            Instr::Or { .. } => self.work(loaded, costs, slot, place, i),
+            Instr::And { .. } => self.work(loaded, costs, slot, place, i),
+            Instr::Xor { .. } => self.work(loaded, costs, slot, place, i),
+            Instr::Mul { .. } => self.work(loaded, costs, slot, place, i),
+            Instr::Idiv { .. } => self.work(loaded, costs, slot, place, i),
+            Instr::Bsrl { .. } => self.work(loaded, costs, slot, place, i),
+            Instr::Bsra { .. } => self.work(loaded, costs, slot, place, i),
+            Instr::Bsll { .. } => self.work(loaded, costs, slot, place, i),
+            Instr::Addik { .. } => self.work(loaded, costs, slot, place, i),
+            Instr::Ori { .. } => self.work(loaded, costs, slot, place, i),
+            Instr::Andi { .. } => self.work(loaded, costs, slot, place, i),
+            Instr::Xori { .. } => self.work(loaded, costs, slot, place, i),
+            Instr::Lw { .. } => self.work(loaded, costs, slot, place, i),
+            Instr::Sw { .. } => self.work(loaded, costs, slot, place, i),
+            Instr::Lwi { .. } => self.work(loaded, costs, slot, place, i),
+            Instr::Swi { .. } => self.work(loaded, costs, slot, place, i),
+            Instr::Imm { imm } => self.imm(loaded, costs, slot, place, imm),
+            Instr::Bri { imm } => self.jump(loaded, costs, slot, place, imm),
+            Instr::Beqi { imm, .. } => self.branch(loaded, costs, slot, place, i, imm),
+            Instr::Bnei { imm, .. } => self.branch(loaded, costs, slot, place, i, imm),
+            Instr::Blti { imm, .. } => self.branch(loaded, costs, slot, place, i, imm),
+            Instr::Blei { imm, .. } => self.branch(loaded, costs, slot, place, i, imm),
+            Instr::Bgti { imm, .. } => self.branch(loaded, costs, slot, place, i, imm),
+            Instr::Bgei { imm, .. } => self.branch(loaded, costs, slot, place, i, imm),
+            Instr::Fork { lo, count } => self.fork_in(loaded, costs, slot, place, lo, count),
+            Instr::Eot => self.eot_in(loaded, costs, slot, place),
+            Instr::End => self.end_in(loaded, costs, slot, place),
+            Instr::Abrt { number } => self.abrt_in(loaded, costs, slot, place, number),
+            Instr::Leave => self.leave_in(loaded, costs, slot, place),
+            Instr::Call { target } => self.call_in(loaded, costs, slot, place, target),
+            Instr::Ret => self.ret_in(loaded, costs, slot, place),
+            Instr::Loop { turns } => self.loop_in(loaded, costs, slot, place, turns),
+            Instr::Next { target } => self.next_in(loaded, costs, slot, place, target),
+            Instr::Drop => self.drop_in(loaded, costs, slot, place),
+            Instr::Cend { ra } => self.cend(loaded, costs, slot, place, ra),
+        }
+    }
+
+    // The step of a word that was looked up.
+    fn found(
+        &mut self,
+        loaded: &Loaded,
+        costs: &Costs,
+        slot: Option<u32>,
+        place: u32,
+        word: Option<Option<Instr>>,
+    ) -> Result<Went, TrapKind>
+        requires low { place < 2 ^ 20 }
+        requires ready { IfSome slot (λ s. IsTrue (is_ready (slot_of s self.old.unit.tree))) }
+        ensures step { (values : List ℤ) → stepped (machine loaded.now values) costs.now self.old.cells (plan_found loaded.now (who_of slot) place self.old.upper self.old.unit word) ≡ went (machine loaded.now values) slot result self.new }
+        ensures kept { Keeps slot self.old.unit result self.new.unit }
+    {
+        match word {
+            None => Err(TrapKind::OutOfCode),
+            Some(None) => Err(TrapKind::BadWord),
+            Some(Some(i)) => {
+                if self.upper.is_some() && !takes_upper(&i) {
+                    return Err(TrapKind::WrongPlace);
+                }
+                self.word(loaded, costs, slot, place, i)
+            }
         }
     }
 
     /// The step of a slot in its turn, or of a condition, at a place.
+    #[tactic(auto, using(crate::proofs::Phases::found_word))]
     pub fn step(
         &mut self,
-        image: &Image,
+        loaded: &Loaded,
         costs: &Costs,
         slot: Option<u32>,
         place: u32,
     ) -> Result<Went, TrapKind>
-        requires size { length image.now.code ≤ 65536 }
+        requires size { length loaded.now.code ≤ 65536 }
         requires ready { IfSome slot (λ s. IsTrue (is_ready (slot_of s self.old.unit.tree))) }
-        ensures step { (values : List ℤ) → stepped (machine image.now values) costs.now self.old.cells (plan_word image.now (who_of slot) place self.old.upper self.old.unit (slice_get image.now.code place)) ≡ went (machine image.now values) slot result self.new }
+        ensures step { (values : List ℤ) → stepped (machine loaded.now values) costs.now self.old.cells (plan_word loaded.now (who_of slot) place self.old.upper self.old.unit (slice_get loaded.now.code place)) ≡ went (machine loaded.now values) slot result self.new }
         ensures kept { Keeps slot self.old.unit result self.new.unit }
     {
-        match image.code().get(place as usize) {
-            None => Err(TrapKind::OutOfCode),
-            Some(word) => match decode(*word) {
-                None => Err(TrapKind::BadWord),
-                Some(i) => {
-                    if self.upper.is_some() && !takes_upper(&i) {
-                        return Err(TrapKind::WrongPlace);
-                    }
-                    self.word(image, costs, slot, place, i)
-                }
-            },
+        if place as usize >= loaded.image().code().len() {
+            return Err(TrapKind::OutOfCode);
         }
+        self.found(loaded, costs, slot, place, loaded.word(place as usize))
     }
 
     /// The unit.
@@ -556,11 +586,11 @@ impl Core {
     }
 
     /// The inputs are sampled.
-    pub fn sample(&mut self, image: &Image, values: &[i32])
-        requires row { length values.now ≡ length image.now.inputs }
-        ensures { self.new ≡ record self.old { cells = (machine image.now values.now).sampled self.old.cells } }
+    pub fn sample(&mut self, loaded: &Loaded, values: &[i32])
+        requires row { length values.now ≡ length loaded.now.inputs }
+        ensures { self.new ≡ record self.old { cells = (machine loaded.now values.now).sampled self.old.cells } }
     {
-        sample(&mut self.store, image.inputs(), values);
+        sample(&mut self.store, loaded.image().inputs(), values);
     }
 
     /// The paused slots are ready one word on.
@@ -583,6 +613,13 @@ impl Core {
         ensures { self.new ≡ record self.old { unit = begun self.old.unit } }
     {
         self.unit.begin_tests();
+    }
+
+    /// What a slot does.
+    pub fn slot(&self, s: u32) -> Slot
+        ensures { result ≡ slot_of s self.now.unit.tree }
+    {
+        self.unit.slot(s)
     }
 
     /// What a memory word reads.

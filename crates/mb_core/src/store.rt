@@ -1,4 +1,4 @@
-ghost use Rattle.std.specs.Prelude.{◌≡◌, ◌+◌, ◌<◌, ◌/◌, ◌%◌, ◌^◌, int_lt, cond, true, length};
+ghost use Rattle.std.specs.Prelude.{◌≡◌, ◌+◌, ◌<◌, ◌/◌, ◌%◌, ◌^◌, int_lt, cond, true, length, pos, replicate};
 ghost use Rattle.std.specs.Ordering.{int_eq};
 ghost use Rattle.std.specs.Int.{w32, cast_signed, cast_unsigned};
 ghost use Rattle.pt_base.specs.Operators.{binary_of};
@@ -52,6 +52,16 @@ fn logical_right(a: i32, b: i32) -> i32
 }
 
 impl Store {
+    /// All registers are 0.
+    pub fn of(memory: Vec<i32>) -> Store
+        ensures { result ≡ record { registers = replicate 32 (pos 0); memory = memory.items } }
+    {
+        Store {
+            registers: [0; 32],
+            memory,
+        }
+    }
+
     /// What a register reads.
     pub fn register(&self, r: Reg) -> i32
         ensures { result ≡ register self.now r }

@@ -11,9 +11,10 @@ ghost use Rattle.mb_isa.specs.Operands.{turns_of};
 ghost use Rattle.mb_step.specs.Words.{plan_of, enters};
 ghost use Rattle.mb_core.specs.Going.{came, IsStillReady};
 
+use crate::loading::Loaded;
 use arrayvec::ArrayVec;
 use mb_pfu::{AbortParts, TrapKind, Unit};
-use pt_image::{AbortLine, Image, is_listed};
+use pt_image::{AbortLine, is_listed};
 
 // The numbers of the aborts that a slot is inside.
 fn stack_of(unit: &Unit, s: u32) -> ArrayVec<u32, 8>
@@ -27,14 +28,14 @@ fn stack_of(unit: &Unit, s: u32) -> ArrayVec<u32, 8>
 }
 
 /// `eot`.
-pub fn eot(unit: &mut Unit, image: &Image, s: u32, place: u32) -> Result<Option<u32>, TrapKind>
+pub fn eot(unit: &mut Unit, loaded: &Loaded, s: u32, place: u32) -> Result<Option<u32>, TrapKind>
     requires ready { IsTrue (is_ready (slot_of s unit.old.tree)) }
     requires low { place < 2 ^ 20 }
-    ensures plan { (upper : Option ℤ) → plan_of image.now (Turn s) place upper unit.old words.Eot ≡ came class.Eot s result unit.new }
+    ensures plan { (upper : Option ℤ) → plan_of loaded.now (Turn s) place upper unit.old words.Eot ≡ came class.Eot s result unit.new }
     ensures kept { IsStillReady s result unit.new }
 {
     let stack = stack_of(unit, s);
-    if !is_listed(image.pauses(), place, s, &stack) {
+    if !is_listed(loaded.image().pauses(), place, s, &stack) {
         return Err(TrapKind::WrongPlace);
     }
     match unit.pause(s, place) {
@@ -46,7 +47,7 @@ pub fn eot(unit: &mut Unit, image: &Image, s: u32, place: u32) -> Result<Option<
 /// `fork`.
 pub fn fork_word(
     unit: &mut Unit,
-    image: &Image,
+    loaded: &Loaded,
     s: u32,
     place: u32,
     lo: u8,
@@ -54,28 +55,28 @@ pub fn fork_word(
 ) -> Result<Option<u32>, TrapKind>
     requires ready { IsTrue (is_ready (slot_of s unit.old.tree)) }
     requires low { place < 2 ^ 20 }
-    ensures plan { (upper : Option ℤ) → plan_of image.now (Turn s) place upper unit.old (words.Fork lo count) ≡ came class.Fork s result unit.new }
+    ensures plan { (upper : Option ℤ) → plan_of loaded.now (Turn s) place upper unit.old (words.Fork lo count) ≡ came class.Fork s result unit.new }
     ensures kept { IsStillReady s result unit.new }
 {
     let stack = stack_of(unit, s);
-    if !is_listed(image.forks(), place, s, &stack) {
+    if !is_listed(loaded.image().forks(), place, s, &stack) {
         return Err(TrapKind::WrongPlace);
     }
     let from = usize::from(lo);
     let to = from + usize::from(count);
-    if image.slots().len() < to {
+    if loaded.image().slots().len() < to {
         return Err(TrapKind::WrongPlace);
     }
-    match unit.fork(s, place, u32::from(lo), &image.slots()[from..to]) {
+    match unit.fork(s, place, u32::from(lo), &loaded.image().slots()[from..to]) {
         Err(kind) => Err(kind),
         Ok(()) => Ok(None),
     }
 }
 
 /// `end`.
-pub fn end(unit: &mut Unit, image: &Image, s: u32, place: u32) -> Result<Option<u32>, TrapKind>
+pub fn end(unit: &mut Unit, loaded: &Loaded, s: u32, place: u32) -> Result<Option<u32>, TrapKind>
     requires ready { IsTrue (is_ready (slot_of s unit.old.tree)) }
-    ensures plan { plan_of image.now (Turn s) place None unit.old words.End ≡ came class.End s result unit.new }
+    ensures plan { plan_of loaded.now (Turn s) place None unit.old words.End ≡ came class.End s result unit.new }
     ensures kept { IsStillReady s result unit.new }
 {
     match unit.finish(s) {
@@ -87,13 +88,13 @@ pub fn end(unit: &mut Unit, image: &Image, s: u32, place: u32) -> Result<Option<
 /// `leave`.
 pub fn leave_word(
     unit: &mut Unit,
-    image: &Image,
+    loaded: &Loaded,
     s: u32,
     place: u32,
 ) -> Result<Option<u32>, TrapKind>
     requires ready { IsTrue (is_ready (slot_of s unit.old.tree)) }
     requires low { place < 2 ^ 20 }
-    ensures plan { plan_of image.now (Turn s) place None unit.old words.Leave ≡ came class.Leave s result unit.new }
+    ensures plan { plan_of loaded.now (Turn s) place None unit.old words.Leave ≡ came class.Leave s result unit.new }
     ensures kept { IsStillReady s result unit.new }
 {
     match unit.leave(s) {
@@ -127,26 +128,26 @@ fn enter_line(
 }
 
 // An abort line.
-fn line_of(image: &Image, number: u16) -> Option<AbortLine>
-    ensures { result ≡ slice_get image.now.aborts number }
+fn line_of(loaded: &Loaded, number: u16) -> Option<AbortLine>
+    ensures { result ≡ slice_get loaded.now.aborts number }
 {
-    image.aborts().get(number as usize).copied()
+    loaded.image().aborts().get(number as usize).copied()
 }
 
 /// `abrt`.
 pub fn abrt(
     unit: &mut Unit,
-    image: &Image,
+    loaded: &Loaded,
     s: u32,
     place: u32,
     number: u16,
 ) -> Result<Option<u32>, TrapKind>
     requires ready { IsTrue (is_ready (slot_of s unit.old.tree)) }
     requires low { place < 2 ^ 20 }
-    ensures plan { plan_of image.now (Turn s) place None unit.old (words.Abrt number) ≡ came class.Abrt s result unit.new }
+    ensures plan { plan_of loaded.now (Turn s) place None unit.old (words.Abrt number) ≡ came class.Abrt s result unit.new }
     ensures kept { IsStillReady s result unit.new }
 {
-    match line_of(image, number) {
+    match line_of(loaded, number) {
         None => Err(TrapKind::WrongPlace),
         Some(line) => enter_line(unit, s, place, u32::from(number), &line),
     }
@@ -155,7 +156,7 @@ pub fn abrt(
 /// `loop`, with the upper half that stands.
 pub fn loop_word(
     unit: &mut Unit,
-    image: &Image,
+    loaded: &Loaded,
     s: u32,
     place: u32,
     turns: u32,
@@ -165,7 +166,7 @@ pub fn loop_word(
     requires ready { IsTrue (is_ready (slot_of s unit.old.tree)) }
     requires low { place < 2 ^ 20 }
     requires turns { turns ≡ turns_of upper low }
-    ensures plan { plan_of image.now (Turn s) place upper unit.old (words.Loop low) ≡ came class.Loop s result unit.new }
+    ensures plan { plan_of loaded.now (Turn s) place upper unit.old (words.Loop low) ≡ came class.Loop s result unit.new }
     ensures kept { IsStillReady s result unit.new }
 {
     match unit.loop_set(turns) {
@@ -177,14 +178,14 @@ pub fn loop_word(
 /// `call`.
 pub fn call(
     unit: &mut Unit,
-    image: &Image,
+    loaded: &Loaded,
     s: u32,
     place: u32,
     target: u16,
 ) -> Result<Option<u32>, TrapKind>
     requires ready { IsTrue (is_ready (slot_of s unit.old.tree)) }
     requires low { place < 2 ^ 20 }
-    ensures plan { plan_of image.now (Turn s) place None unit.old (words.Call target) ≡ came class.Call s result unit.new }
+    ensures plan { plan_of loaded.now (Turn s) place None unit.old (words.Call target) ≡ came class.Call s result unit.new }
     ensures kept { IsStillReady s result unit.new }
 {
     match unit.call(place + 1) {
@@ -194,9 +195,9 @@ pub fn call(
 }
 
 /// `ret`.
-pub fn ret(unit: &mut Unit, image: &Image, s: u32, place: u32) -> Result<Option<u32>, TrapKind>
+pub fn ret(unit: &mut Unit, loaded: &Loaded, s: u32, place: u32) -> Result<Option<u32>, TrapKind>
     requires ready { IsTrue (is_ready (slot_of s unit.old.tree)) }
-    ensures plan { plan_of image.now (Turn s) place None unit.old words.Ret ≡ came class.Ret s result unit.new }
+    ensures plan { plan_of loaded.now (Turn s) place None unit.old words.Ret ≡ came class.Ret s result unit.new }
     ensures kept { IsStillReady s result unit.new }
 {
     match unit.ret() {
@@ -208,14 +209,14 @@ pub fn ret(unit: &mut Unit, image: &Image, s: u32, place: u32) -> Result<Option<
 /// `next`.
 pub fn next(
     unit: &mut Unit,
-    image: &Image,
+    loaded: &Loaded,
     s: u32,
     place: u32,
     target: u16,
 ) -> Result<Option<u32>, TrapKind>
     requires ready { IsTrue (is_ready (slot_of s unit.old.tree)) }
     requires low { place < 2 ^ 20 }
-    ensures plan { plan_of image.now (Turn s) place None unit.old (words.Next target) ≡ came class.Next s result unit.new }
+    ensures plan { plan_of loaded.now (Turn s) place None unit.old (words.Next target) ≡ came class.Next s result unit.new }
     ensures kept { IsStillReady s result unit.new }
 {
     match unit.loop_next() {
@@ -228,13 +229,13 @@ pub fn next(
 /// `drop`.
 pub fn drop_word(
     unit: &mut Unit,
-    image: &Image,
+    loaded: &Loaded,
     s: u32,
     place: u32,
 ) -> Result<Option<u32>, TrapKind>
     requires ready { IsTrue (is_ready (slot_of s unit.old.tree)) }
     requires low { place < 2 ^ 20 }
-    ensures plan { plan_of image.now (Turn s) place None unit.old words.Drop ≡ came class.Drop s result unit.new }
+    ensures plan { plan_of loaded.now (Turn s) place None unit.old words.Drop ≡ came class.Drop s result unit.new }
     ensures kept { IsStillReady s result unit.new }
 {
     match unit.drop_loop() {

@@ -1,5 +1,3 @@
-pub mod Waking
-pub mod Keeping
-pub mod Turning
-pub mod Beginning
+pub mod Phases
 pub mod PlainWords
+pub mod PlainTicks

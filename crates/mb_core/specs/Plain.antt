@@ -1,4 +1,4 @@
--- The images that this machine runs: docs/machine.md, "Plain images".
+-- Plain images: docs/machine.md.
 use Rattle.std.specs.Prelude.{◌≡◌, Bool, true, false, IsTrue, [], length, Option, Some}
 use Rattle.std.specs.List.{AllByRecursion}
 use Rattle.mb_isa.specs.declared.Instr.{Instr}

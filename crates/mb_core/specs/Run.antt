@@ -1,4 +1,4 @@
--- The loaded state and the runs from it: docs/machine.md, "State" and "Tick".
+-- The loaded state of a plain image, and the runs from it.
 use Rattle.std.specs.Prelude.{ℕ, ℤ, pos, List, [], ◌∷◌, map, None}
 use Rattle.mb_pfu.specs.declared.Slot.{Slot}
 use Rattle.mb_pfu.specs.declared.Slot.TheVariants.{Free, Ready}

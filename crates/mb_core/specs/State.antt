@@ -1,4 +1,4 @@
--- The machine's state: docs/machine.md, "State".
+-- The state of a machine that runs a plain image.
 use Rattle.std.specs.Prelude.{ℕ, ℤ, pos, ◌==◌, if◌then◌else◌, List, Option, None, slice_set, slice_index_or}
 use Rattle.mb_isa.specs.declared.Reg.{Reg}
 use Rattle.mb_isa.specs.Registers.{number}

@@ -1,9 +1,10 @@
--- One step of a slot, with its charge and its traps in their order: docs/machine.md, "Traps".
+-- One step of the slot of a plain image, with its charge and its traps in their order.
 use Rattle.std.specs.Prelude.{ℕ, ℤ, nat_lt, not, Bool, false, if◌then◌else◌, List, slice_get, Option, Some, None}
 use Rattle.mb_isa.specs.declared.Instr.{Instr}
 use Rattle.mb_isa.specs.Candidates.{decoded}
-use Rattle.mb_isa.specs.Classes.{class_of, takes_upper}
+use Rattle.mb_isa.specs.Classes.{class_of}
 use Rattle.mb_isa.specs.Costs.{cost_of}
+use Rattle.mb_step.specs.Words as whole
 use Rattle.mb_pfu.specs.declared.TrapKind.{TrapKind}
 use Rattle.mb_pfu.specs.declared.TrapKind.TheVariants.{BadWord, OutOfCode, WrongPlace, Late}
 use Rattle.pt_image.specs.declared.Parts.{Parts}
@@ -15,10 +16,8 @@ pub data Stepped : Type 0 where
   Done : (charge : ℕ) → (next : State) → Stepped
   Traps : (kind : TrapKind) → Stepped
 
--- an upper half stands, and the word may not follow it
 abbrev pub is_barred : Option ℤ → Instr → Bool
-is_barred None i = false
-is_barred (Some upper) i = not (takes_upper i)
+is_barred upper i = whole.is_barred upper i
 
 -- what the word is charged; no plain image holds a branch that may be taken or not
 abbrev pub charge_of : List ℕ → Instr → ℕ

@@ -1,4 +1,4 @@
--- A whole tick: docs/machine.md, "Tick".
+-- A tick of a plain image.
 use Rattle.std.specs.Prelude.{ℕ, ℤ, suc, zero, ◌+◌, ◌-◌, ◌*◌, ◌^◌, ◌<◌, nat_lt, if◌then◌else◌, List, [], ◌∷◌, map, length, slice_set, Option, Some, None}
 use Rattle.mb_isa.specs.declared.Class.TheVariants as class
 use Rattle.mb_isa.specs.Costs.{cost_of}
@@ -7,6 +7,7 @@ use Rattle.mb_pfu.specs.declared.Slot.TheVariants.{Free, Ready, Paused, Waiting,
 use Rattle.mb_pfu.specs.declared.TrapKind.{TrapKind}
 use Rattle.mb_pfu.specs.declared.TrapKind.TheVariants.{Late}
 use Rattle.pt_image.specs.declared.Parts.{Parts}
+use Rattle.mb_step.specs.Cells as cells
 use Rattle.mb_core.specs.State.{State, word_at}
 use Rattle.mb_core.specs.Step.{Stepped, Done, Traps, step}
 
@@ -54,11 +55,8 @@ CanWake (Paused place) = place + 1 < 2 ^ 32
 CanWake (Waiting at lo count) = Unit {0}
 CanWake Ended = Unit {0}
 
--- the inputs' words are set in order
 abbrev pub with_inputs : List ℕ → List ℤ → List ℤ → List ℤ
-with_inputs [] values memory = memory
-with_inputs (place ∷ places) [] memory = memory
-with_inputs (place ∷ places) (value ∷ values) memory = with_inputs places values (slice_set memory place value)
+with_inputs places values memory = cells.with_inputs places values memory
 
 -- the inputs are sampled, and the paused slots are ready
 abbrev pub begun : Parts → List ℤ → State → State

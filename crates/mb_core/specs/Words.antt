@@ -1,7 +1,10 @@
--- What each word does: docs/machine.md, "Instruction words" and "Unit words".
+-- What each word does in a plain image, which has one slot, no aborts and no forks.
 use Rattle.std.specs.Prelude.{ℕ, ℤ, pos, ◌+◌, ◌*◌, ◌/◌, ◌%◌, ◌^◌, ◌+ℤ◌, ◌*ℤ◌, ◌==◌, nat_lt, ◌&&◌, Bool, if◌then◌else◌, List, length, Option, Some, None}
 use Rattle.std.specs.List.{list_any}
-use Rattle.std.specs.Int.{w16, w32, cast_unsigned, int_wrapping_add}
+use Rattle.std.specs.Int.{w32, cast_unsigned}
+use Rattle.pt_base.specs.declared.BinOp.TheVariants as op
+use Rattle.pt_base.specs.Operators.{binary_of}
+use Rattle.mb_isa.specs.Operands as operands
 use Rattle.mb_isa.specs.declared.Reg.{Reg}
 use Rattle.mb_isa.specs.declared.Instr.{Instr}
 use Rattle.mb_isa.specs.declared.Instr.TheVariants.{Addk, Addik, Imm, Bri, Lwi, Swi, Eot, End}
@@ -17,26 +20,22 @@ pub data Effect : Type 0 where
   Leaves : (next : State) → Effect
   Refused : (kind : TrapKind) → Effect
 
--- a word's imm, of 32 bits where an upper half stands
 abbrev pub immediate : Option ℤ → ℤ → ℤ
-immediate None imm = imm
-immediate (Some upper) imm = upper *ℤ pos 65536 +ℤ pos (cast_unsigned w16 imm)
+immediate upper imm = operands.immediate upper imm
 
 -- the sum of a register and the imm
 abbrev pub sum_of : State → Reg → ℤ → ℤ
-sum_of s ra imm = int_wrapping_add w32 (register s ra) (immediate s.upper imm)
+sum_of s ra imm = binary_of op.Add (register s ra) (immediate s.upper imm)
 
 -- the byte that an address means
 abbrev pub byte_at : State → Reg → ℤ → ℕ
 byte_at s ra imm = cast_unsigned w32 (sum_of s ra imm)
 
--- a byte is that of one of so many words
 abbrev pub is_good : ℕ → ℕ → Bool
-is_good words byte = byte % 4 == 0 && nat_lt (byte / 4) words
+is_good words byte = operands.is_good words byte
 
--- the byte to which a branch leads
 abbrev pub branch_byte : ℕ → ℤ → ℕ
-branch_byte place imm = (4 * place + cast_unsigned w32 imm) % 2 ^ 32
+branch_byte place imm = operands.branch_byte place imm
 
 -- a pause is listed for a place and a slot, inside no abort
 abbrev pub is_pause_of : ℕ → ℕ → Point → Bool
@@ -47,7 +46,7 @@ is_listed pauses place slot = list_any (is_pause_of place slot) pauses
 
 -- what a word does at a place of a slot
 abbrev pub effect : Parts → ℕ → ℕ → State → Instr → Effect
-effect image slot place s (Addk rd ra rb) = Leaves (with_slot slot (Ready (place + 1)) (with_register rd (int_wrapping_add w32 (register s ra) (register s rb)) s))
+effect image slot place s (Addk rd ra rb) = Leaves (with_slot slot (Ready (place + 1)) (with_register rd (binary_of op.Add (register s ra) (register s rb)) s))
 effect image slot place s (Addik rd ra imm) = Leaves (with_slot slot (Ready (place + 1)) (with_register rd (sum_of s ra imm) s))
 effect image slot place s (Imm imm) = Leaves (record (with_slot slot (Ready (place + 1)) s) { upper = Some imm })
 effect image slot place s (Lwi rd ra imm) =

@@ -1,10 +1,11 @@
-ghost use Rattle.std.specs.Prelude.{◌≡◌, IfOk};
-ghost use Rattle.mb_core.specs.Run.{loaded_slots};
+ghost use Rattle.std.specs.Prelude.{◌≡◌, ◌<◌, IfOk, IsTrue, length, map, option_map, slice_get};
+ghost use Rattle.mb_isa.specs.Candidates.{decoded};
 
-use mb_pfu::Slot;
+use mb_isa::{Instr, decode};
 use pt_base::{Many, Memory};
 use pt_image::{Image, Parts, Point};
 use std::alloc::Global;
+use std::marker::Model;
 
 // A copy of a list of points.
 fn points(alloc: Global, points: &[Point]) -> Result<Many<Point>, Memory>
@@ -41,8 +42,8 @@ fn parts(alloc: Global, image: &Image) -> Result<Parts, Memory>
     })
 }
 
-/// A copy of an image.
-pub fn copied(alloc: Global, image: &Image) -> Result<Image, Memory>
+// A copy of an image.
+fn copied(alloc: Global, image: &Image) -> Result<Image, Memory>
     ensures { IfOk result (λ copy. copy ≡ image.now) }
 {
     image.ranges();
@@ -50,20 +51,59 @@ pub fn copied(alloc: Global, image: &Image) -> Result<Image, Memory>
     Ok(Image::of(copy))
 }
 
-/// The loaded slots: the first is ready at its starting place, the others are free.
-pub fn loaded_slots(alloc: Global, starts: &[u32]) -> Result<Vec<Slot>, Memory>
-    ensures { IfOk result (λ slots. slots.items ≡ loaded_slots starts.now) }
+// The words of a code, decoded.
+fn words(alloc: Global, code: &[u32]) -> Result<Vec<Option<Instr>>, Memory>
+    ensures { IfOk result (λ words. words.items ≡ map decoded code.now) }
 {
-    let mut slots = Vec::new(alloc);
-    if let Some((start, others)) = starts.split_first() {
-        if slots.push(Slot::Ready(*start)).is_err() {
+    let mut words = Vec::new(alloc);
+    for word in code {
+        if words.push(decode(*word)).is_err() {
             return Err(Memory);
         }
-        for _other in others {
-            if slots.push(Slot::Free).is_err() {
-                return Err(Memory);
-            }
-        }
     }
-    Ok(slots)
+    Ok(words)
+}
+
+/// An image made ready to run: its code is decoded.
+#[derive(Drop)]
+pub struct Loaded {
+    image: Image,
+    words: Vec<Option<Instr>>,
+}
+
+impl Model for Loaded {
+    ghost use Rattle.std.specs.Prelude.{◌≡◌, map};
+    ghost use Rattle.mb_isa.specs.Candidates.{decoded};
+    ghost use Rattle.pt_image.specs.declared.Parts.{Parts};
+
+    ghost Value = { Parts };
+
+    ghost view = { λ l. l.image };
+
+    ghost invariant = { λ l. l.words.items ≡ map decoded l.image.code };
+}
+
+impl Loaded {
+    /// A copy of an image, made ready to run.
+    pub fn of(alloc: Global, image: &Image) -> Result<Loaded, Memory>
+        ensures { IfOk result (λ loaded. loaded ≡ image.now) }
+    {
+        let image = copied(alloc, image)?;
+        let words = words(alloc, image.code())?;
+        Ok(Loaded { image, words })
+    }
+
+    /// The image.
+    pub fn image(&self) -> &Image
+        ensures { result.now ≡ self.now }
+    {
+        &self.image
+    }
+
+    /// The word at a place of the code, decoded; none where it doesn't decode.
+    pub fn word(&self, place: usize) -> Option<Option<Instr>>
+        ensures { result ≡ option_map decoded (slice_get self.now.code place) }
+    {
+        self.words.get(place).copied()
+    }
 }

@@ -95,7 +95,8 @@ impl Costs {
     pub fn tick(&self, inputs: usize, outputs: usize) -> u64
         requires inputs { inputs ≤ 64 }
         requires outputs { outputs ≤ 64 }
-        ensures { result ≡ tick_charge self.now inputs outputs }
+        ensures charge { result ≡ tick_charge self.now inputs outputs }
+        ensures in_range { IsCosts self.now }
     {
         self.cost(Class::Tick) * (1 + inputs as u64 + outputs as u64)
     }

@@ -3,6 +3,7 @@ pub mod Words
 pub mod Step
 pub mod Tick
 pub mod Cells
+pub mod Run
 pub mod Free
 pub mod Follows
 pub mod Laws

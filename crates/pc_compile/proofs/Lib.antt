@@ -1,3 +1,4 @@
+pub mod Plainly
 pub mod Pieces
 pub mod Numbers
 pub mod Running

@@ -1,7 +1,7 @@
 -- The numbers of immediates and addresses.
-use Rattle.std.proofs.Common.{◌≡◌, ℕ, suc, ◌+◌, ◌-◌, ◌*◌, ◌/◌, ◌%◌, ◌^◌, ◌<◌, ◌≤◌, ℤ, pos, negsuc, neg_ℤ, ◌+ℤ◌, ◌*ℤ◌, true, false, nat_lt, ◌==◌, ◌&&◌, FitsSigned, sym, ap, ◌∙◌, arith, ⊎_elim}
-use Rattle.std.specs.Int.{w16, w32, int_wrap, int_wrapping_add, cast_signed, cast_unsigned}
-use Rattle.std.proofs.lemmas.Int.{ints, of_z-to_z, to_z_pos}
+use Rattle.std.proofs.Common.{◌≡◌, ℕ, suc, ◌+◌, ◌-◌, ◌*◌, ◌/◌, ◌%◌, ◌^◌, ◌<◌, ◌≤◌, ℤ, pos, negsuc, neg_ℤ, ◌+ℤ◌, ◌*ℤ◌, true, false, nat_lt, ◌==◌, ◌&&◌, FitsSigned, sym, ap, subst, ◌∙◌, arith, ⊎_elim}
+use Rattle.std.specs.Int.{w16, w32, int_wrap, cast_signed, cast_unsigned}
+use Rattle.std.proofs.lemmas.Int.{ints, of_z-to_z, to_z-of_z, to_z_pos, int_wrap_fits}
 use Rattle.std.proofs.Math.Facts.{to_z-neg, sfits_to_z}
 use Rattle.std.proofs.lemmas.Bool.{cases_lt}
 use Rattle.pt_base.proofs.Words.{wrap_pos}
@@ -9,10 +9,11 @@ use Rattle.pc_compile.specs.Words.{is_wide, byte_of}
 use Rattle.mb_core.specs.Words.{is_good}
 
 -- the sum of r0 and an immediate of these bits
-pub plus_zero : (z : ℤ) (n : ℕ) → cast_unsigned w32 z ≡ n → n < 2 ^ 32 → int_wrapping_add w32 (pos 0) z ≡ int_wrap w32 (pos n)
-plus_zero z n e h =
-    let same : (0 + cast_unsigned w32 z) % 2 ^ 32 ≡ n = omega arith in
-    ap (cast_signed w32) same ∙ sym (wrap_pos n h)
+zero_plus : (z : ℤ) → pos 0 +ℤ z ≡ z
+zero_plus z = omega (arith, ints)
+
+pub plus_zero : (z : ℤ) (n : ℕ) → FitsSigned w32 z → cast_unsigned w32 z ≡ n → n < 2 ^ 32 → int_wrap w32 (pos 0 +ℤ z) ≡ int_wrap w32 (pos n)
+plus_zero z n f e h = ap (int_wrap w32) (zero_plus z) ∙ int_wrap_fits w32 z f ∙ sym (to_z-of_z w32 z f) ∙ ap (cast_signed w32) e ∙ sym (wrap_pos n h)
 
 low_small : (m : ℕ) → m < 32768 → cast_signed w16 m ≡ pos m
 low_small m h = to_z_pos w16 m h
@@ -24,6 +25,9 @@ low_large m h k =
 
 pub unsigned_low : (m : ℕ) → m < 65536 → cast_unsigned w16 (cast_signed w16 m) ≡ m
 unsigned_low m h = of_z-to_z w16 m h
+
+pub low_bits : (m : ℕ) → m < 65536 → cast_unsigned w16 (cast_signed w16 m) < 65536
+low_bits m h = subst (λ k. k < 65536) (sym (unsigned_low m h)) h
 
 far_enough : (n : ℕ) → 32768 ≤ n → is_wide n ≡ false → 4294934528 ≤ n
 far_enough n h w = grind arith
@@ -71,11 +75,16 @@ wide_bits n h = ⊎_elim near far (cases_lt (n / 65536) 32768)
 pub fits_half : (m : ℕ) → m < 65536 → FitsSigned w16 (cast_signed w16 m)
 fits_half m h = sfits_to_z (record { fits = h })
 
+-- and so do a half and the two halves of an immediate in 32 bits
+pub fits_low : (z : ℤ) → FitsSigned w16 z → FitsSigned w32 z
+fits_low z f = omega (arith, ints)
+
+pub fits_both : (high low : ℤ) → FitsSigned w16 high → cast_unsigned w16 low < 65536 → FitsSigned w32 (high *ℤ pos 65536 +ℤ pos (cast_unsigned w16 low))
+fits_both high low f h = omega (arith, ints)
+
 -- the byte of a cell
-pub cell_byte : (cell : ℕ) → cell < 2000 → cast_unsigned w32 (int_wrapping_add w32 (pos 0) (byte_of cell)) ≡ 4 * cell
-cell_byte cell h =
-    let e : (0 + 4 * cell) % 2 ^ 32 ≡ 4 * cell = omega arith in
-    ap (λ n. cast_unsigned w32 (cast_signed w32 n)) e ∙ of_z-to_z w32 (4 * cell) (omega arith)
+pub cell_byte : (cell : ℕ) → cell < 2000 → cast_unsigned w32 (int_wrap w32 (pos 0 +ℤ byte_of cell)) ≡ 4 * cell
+cell_byte cell h = ap (λ z. cast_unsigned w32 (int_wrap w32 z)) (zero_plus (pos (4 * cell))) ∙ ap (cast_unsigned w32) (wrap_pos (4 * cell) (omega arith)) ∙ of_z-to_z w32 (4 * cell) (omega arith)
 
 pub fits_byte : (cell : ℕ) → cell < 2000 → FitsSigned w16 (byte_of cell)
 fits_byte cell h = record { sfits = omega arith }

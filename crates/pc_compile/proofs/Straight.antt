@@ -2,11 +2,11 @@
 use Rattle.std.proofs.Common.{◌≡◌, ℕ, zero, suc, ◌+◌, ◌*◌, ◌/◌, ◌%◌, ◌^◌, ◌<◌, ◌≤◌, ℤ, pos, ◌+ℤ◌, Bool, true, false, ◌==◌, if◌then◌else◌, List, [], ◌∷◌, ◌++◌, drop, length, map, All, Option, Some, None, slice_set, slice_index_or, FitsSigned, refl, sym, ap, subst, ◌∙◌, arith, zero-add, add-zero, add_assoc, ⊎_elim, append_assoc, length-append}
 use Rattle.std.proofs.lemmas.Bool.{cases_lt}
 use Rattle.std.proofs.lemmas.List.{map-append, length-map, drop-drop, length-set, get_or-set_same, get_or-set_other}
-use Rattle.std.proofs.lemmas.Int.{wrapping_add_is, SFits-int_wrap}
+use Rattle.std.proofs.lemmas.Int.{SFits-int_wrap}
 use Rattle.std.proofs.Math.Seq.{drop-append_seam}
 use Rattle.pt_base.specs.Operators.{binary_of}
 use Rattle.pt_base.specs.declared.operators.BinOp.TheVariants.{Add}
-use Rattle.std.specs.Int.{w16, w32, cast_signed, int_wrapping_add}
+use Rattle.std.specs.Int.{w16, w32, cast_signed}
 use Rattle.mb_isa.specs.declared.registers.Reg.{Reg}
 use Rattle.mb_isa.specs.declared.registers.Reg.TheVariants.{R0, R3, R4}
 use Rattle.mb_isa.specs.declared.words.Instr.{Instr}
@@ -33,7 +33,7 @@ use Rattle.pc_small.specs.declared.program.Step.TheVariants.{Assign}
 use Rattle.pc_meaning.specs.Meaning.{value_of, added, sum_of}
 use Rattle.pt_base.specs.Operators.{word_of}
 use Rattle.pc_compile.specs.Words.{byte_of, operand_words, added_words, step_words, is_wide}
-use Rattle.pc_compile.proofs.Numbers.{plus_zero, narrow_bits, wide_bits, fits_half, cell_byte, is_cell, fits_byte}
+use Rattle.pc_compile.proofs.Numbers.{plus_zero, narrow_bits, wide_bits, fits_low, fits_both, low_bits, fits_half, cell_byte, is_cell, fits_byte}
 use Rattle.pc_compile.proofs.Running.{standing, one_step, drop_next}
 
 -- so many steps lead from one state to another, for a charge of at most 255 each
@@ -96,7 +96,7 @@ goes_one image costs registers memory upper place i rest next c at fits free doe
 
 addik_does : (image : Parts) (registers memory : List ℤ) (upper : Option ℤ) (at : ℕ) (r : Reg) (imm value : ℤ)
     → (number r == 0) ≡ false
-    → int_wrapping_add w32 (pos 0) (immediate upper imm) ≡ value
+    → binary_of Add (pos 0) (immediate upper imm) ≡ value
     → effect image 0 at (standing registers upper memory at) (Addik r R0 imm) ≡ Leaves (standing (slice_set registers (number r) value) None memory (at + 1))
 addik_does image registers memory upper at r imm value other e =
     ap (λ x. Leaves (standing (if number r == 0 then registers else slice_set registers (number r) x) None memory (at + 1))) e
@@ -124,14 +124,14 @@ constant_goes image costs registers memory at r n rest true c other fits e there
     let lower = goes_one image costs registers memory (Some high) (at + 1) (Addik r R0 low) rest (standing (slice_set registers (number r) (word_of (pos n))) None memory (at + 1 + 1)) c
     (drop_next at image.code (code_of (Imm high)) (code_of (Addik r R0 low) ∷ rest) there)
     (fits_half (n % 65536) (omega arith)) refl
-    (addik_does image registers memory (Some high) (at + 1) r low (word_of (pos n)) other (plus_zero (immediate (Some high) low) n (wide_bits n fits) fits)) in
+    (addik_does image registers memory (Some high) (at + 1) r low (word_of (pos n)) other (plus_zero (immediate (Some high) low) n (fits_both high low (fits_half (n / 65536) (omega arith)) (low_bits (n % 65536) (omega arith))) (wide_bits n fits) fits)) in
     let there_at : at + 1 + 1 ≡ at + 2 = omega arith in
     let P : ℕ → Type 0 = λ k. Goes image costs 2 (standing registers None memory at) (standing (slice_set registers (number r) (word_of (pos n))) None memory k) in
     subst P there_at (goes_then image costs 1 1 _ _ _ upper lower)
 constant_goes image costs registers memory at r n rest false c other fits e there =
     let low = cast_signed w16 (n % 65536) in
     goes_one image costs registers memory None at (Addik r R0 low) rest (standing (slice_set registers (number r) (word_of (pos n))) None memory (at + 1)) c there (fits_half (n % 65536) (omega arith)) refl
-    (addik_does image registers memory None at r low (word_of (pos n)) other (plus_zero low n (narrow_bits n fits e) fits))
+    (addik_does image registers memory None at r low (word_of (pos n)) other (plus_zero low n (fits_low low (fits_half (n % 65536) (omega arith))) (narrow_bits n fits e) fits))
 
 -- the word of a cell into a register
 read_goes : (image : Parts) (costs : List ℕ) (registers memory : List ℤ) (at : ℕ) (r : Reg) (cell : ℕ) (rest : List ℕ)
@@ -177,11 +177,10 @@ pub record Holds (image : Parts) (costs : List ℕ) (from : State) (steps : ℕ)
 
 -- r4 is added to r3
 sum_of_two : (registers : List ℤ) (value word : ℤ) → length registers ≡ 32 → slice_index_or registers 3 (pos 0) ≡ value → FitsSigned w32 value → FitsSigned w32 word
-    → int_wrapping_add w32 (slice_index_or (slice_set registers 4 word) 3 (pos 0)) (slice_index_or (slice_set registers 4 word) 4 (pos 0)) ≡ binary_of Add value word
+    → binary_of Add (slice_index_or (slice_set registers 4 word) 3 (pos 0)) (slice_index_or (slice_set registers 4 word) 4 (pos 0)) ≡ binary_of Add value word
 sum_of_two registers value word size third f g =
-    ap (λ x. int_wrapping_add w32 x (slice_index_or (slice_set registers 4 word) 4 (pos 0))) (get_or-set_other registers 4 3 word (pos 0) (λ e. absurd (omega arith)) ∙ third)
-    ∙ ap (int_wrapping_add w32 value) (get_or-set_same registers 4 word (pos 0) (omega arith))
-    ∙ wrapping_add_is w32 value word f g
+    ap (λ x. binary_of Add x (slice_index_or (slice_set registers 4 word) 4 (pos 0))) (get_or-set_other registers 4 3 word (pos 0) (λ e. absurd (omega arith)) ∙ third)
+    ∙ ap (binary_of Add value) (get_or-set_same registers 4 word (pos 0) (omega arith))
 
 one_added : (image : Parts) (costs : List ℕ) (cells : List Cell) (memory : List ℤ) (operand : Operand) (from : State) (steps at : ℕ) (value : ℤ) (rest : List ℕ)
     → IsCosts costs → OperandFits cells operand → length memory ≡ length cells → length cells ≤ 2000 → FitsSigned w32 (value_of operand memory) → FitsSigned w32 value
@@ -192,7 +191,7 @@ one_added image costs cells memory operand from steps at value rest c fits size 
     let words = operand_words R4 operand in
     let v = value_of operand memory in
     let after = slice_set h.registers 4 v in
-    let sum = int_wrapping_add w32 (slice_index_or after 3 (pos 0)) (slice_index_or after 4 (pos 0)) in
+    let sum = binary_of Add (slice_index_or after 3 (pos 0)) (slice_index_or after 4 (pos 0)) in
     let first = operand_goes image costs cells h.registers memory at R4 operand (code_of (Addk R3 R3 R4) ∷ rest) c refl fits size few there in
     let next = (behind image at words (Addk R3 R3 R4 ∷ []) rest (there ∙ sym (ap (λ l. l ++ rest) (map-append code_of words (Addk R3 R3 R4 ∷ [])) ∙ rw append_assoc refl))).1 in
     let second = goes_one image costs after memory None (at + length words) (Addk R3 R3 R4) rest (standing (slice_set after 3 sum) None memory (at + length words + 1)) c next tt refl refl in

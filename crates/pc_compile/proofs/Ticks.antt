@@ -18,7 +18,8 @@ use Rattle.pc_small.specs.declared.program.Step.{Step}
 use Rattle.pc_small.specs.Program.{Program, IsSmall, is_input, is_output}
 use Rattle.pc_meaning.specs.Meaning.{Store, Standing, Unstarted, At, Ended, Moment, Outcome, start_all, resume, statements_from, moment_of, sampled, inputs_of, outputs_of, words_at, chosen_from, went, ticked, before_ticks, moments_from}
 use Rattle.pc_compile.specs.Words.{image_of, steps_words}
-use Rattle.pc_compile.specs.Faithful.{number_of, StandsIn, EachMeans, IsRow, IsFaithful, most_of_compiled}
+use Rattle.pc_compile.specs.Faithful.{number_of, IsRow, most_of_compiled}
+use Rattle.pc_compile.proofs.Plainly.{StandsIn, EachMeans, IsFaithfulPlainly}
 use Rattle.pc_compile.proofs.Sizes.{steps_size}
 use Rattle.pc_compile.proofs.Running.{standing, not_lt}
 use Rattle.pc_compile.proofs.Straight.{goes_none, cost_few}
@@ -208,6 +209,6 @@ loaded_between program small words =
     }
 
 -- the compiled image does what the program means
-pub compiled_is_faithful : (program : Program) → IsSmall program → All (FitsSigned w32) (map (λ cell. cell.start) program.cells) → IsFaithful program (image_of program)
+pub compiled_is_faithful : (program : Program) → IsSmall program → All (FitsSigned w32) (map (λ cell. cell.start) program.cells) → IsFaithfulPlainly program (image_of program)
 compiled_is_faithful program small words = λ costs c most enough rows are_rows.
     each_means program costs most (before_ticks program) (loaded (image_of program)) rows small c enough are_rows (loaded_between program small words)

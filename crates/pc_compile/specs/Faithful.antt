@@ -6,8 +6,8 @@ use Rattle.mb_pfu.specs.declared.Slot.{Slot}
 use Rattle.mb_pfu.specs.declared.Slot.TheVariants.{Paused, Ended as SlotEnded}
 use Rattle.pt_image.specs.declared.image.Point.{Point}
 use Rattle.pt_image.specs.declared.image.Parts.{Parts}
-use Rattle.mb_core.specs.Tick.{Outcome, Ends, Trapped}
-use Rattle.mb_core.specs.Run.{run}
+use Rattle.mb_pfu.specs.Tree.{slot_of}
+use Rattle.mb_step.specs.Run.{Ticked, Ends, Trapped, run_of}
 use Rattle.pc_small.specs.Program.{Program}
 use Rattle.pc_meaning.specs.Meaning.{Residual, Here, Seq, Standing, Unstarted, At, Ended, Moment, inputs_of, outputs_of, words_at, moments}
 
@@ -17,25 +17,26 @@ number_of (Here number) = number
 number_of (Seq first rest) = number_of first
 
 -- a listed pause is that of slot 0, which is paused there
-abbrev pub PausedAt : Option Point → List Slot → Type 0
-PausedAt None slots = ⊥
-PausedAt (Some point) slots = (point.slot ≡ 0) × (slots ≡ Paused point.at ∷ [])
+abbrev pub PausedAt : Option Point → Slot → Type 0
+PausedAt None slot = ⊥
+PausedAt (Some point) slot = (point.slot ≡ 0) × (slot ≡ Paused point.at)
 
--- the slots stand where `main` stands: slot 0 is paused at the place that the list of pauses has for the
--- `EOT`, by its number, or it has ended
-abbrev pub StandsIn : Parts → Standing → List Slot → Type 0
-StandsIn image Unstarted slots = ⊥
-StandsIn image (At residual) slots = PausedAt (slice_get image.pauses (number_of residual)) slots
-StandsIn image Ended slots = slots ≡ SlotEnded ∷ []
+-- slot 0 stands where `main` stands: it is paused at the place that the list of pauses has for the `EOT`, by its
+-- number, or it has ended
+abbrev pub StandsIn : Parts → Standing → Slot → Type 0
+StandsIn image Unstarted slot = ⊥
+StandsIn image (At residual) slot = PausedAt (slice_get image.pauses (number_of residual)) slot
+StandsIn image Ended slot = slot ≡ SlotEnded
 
--- a tick of the machine does what the meaning does: it ends, its outputs are the meaning's, and the slots
--- stand where `main` stands
-abbrev pub TickMeans : Program → Parts → Moment → Outcome → Type 0
-TickMeans program image moment (Ends cycles outputs state) = (outputs ≡ words_at (outputs_of program) moment.store) × StandsIn image moment.standing state.slots
+-- a tick of the machine does what the meaning does: it ends, its outputs are the meaning's, and slot 0 stands
+-- where `main` stands
+abbrev pub TickMeans : Program → Parts → Moment → Ticked → Type 0
+TickMeans program image moment (Ends cycles outputs state) =
+    (outputs ≡ words_at (outputs_of program) moment.store) × StandsIn image moment.standing (slot_of 0 state.unit.tree)
 TickMeans program image moment (Trapped kind at charged) = ⊥
 
 -- tick by tick, as many of one as of the other
-abbrev pub EachMeans : Program → Parts → List Moment → List Outcome → Type 0
+abbrev pub EachMeans : Program → Parts → List Moment → List Ticked → Type 0
 EachMeans program image [] [] = Unit {0}
 EachMeans program image (moment ∷ moments) (outcome ∷ outcomes) = TickMeans program image moment outcome × EachMeans program image moments outcomes
 EachMeans program image [] (outcome ∷ outcomes) = ⊥
@@ -53,4 +54,4 @@ most_of_compiled = 1000000000000
 abbrev pub IsFaithful : Program → Parts → Type 0
 IsFaithful program image =
     (costs : List ℕ) → IsCosts costs → (most : ℕ) → most_of_compiled ≤ most → (rows : List (List ℤ)) → All (IsRow program) rows
-    → EachMeans program image (moments program rows) (run image costs most rows)
+    → EachMeans program image (moments program rows) (run_of image costs most rows)

@@ -1,5 +1,4 @@
 ghost use Rattle.std.specs.Prelude.{◌≡◌, All, IfOk, IfSome, length};
-ghost use Rattle.mb_core.specs.Plain.{IsPlain};
 ghost use Rattle.pc_meaning.specs.Meaning.{inputs_of};
 
 use mb_core::Machine;
@@ -44,7 +43,6 @@ fn rows_of(alloc: Global, rows: &str, width: usize) -> Result<Option<Ticks>, Mem
 
 // The outputs of the machine's ticks, up to a trap.
 fn machine_ticks(alloc: Global, image: &Image, rows: &[Many<i32>]) -> Result<Ticks, Memory>
-    requires plain { IsPlain image.now }
     requires widths { All (λ row. length row ≡ length image.now.inputs) rows.now }
 {
     let mut machine = Machine::load(alloc, image, &unit_costs())?;

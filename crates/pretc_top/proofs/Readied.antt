@@ -6,7 +6,7 @@ use Rattle.mb_isa.specs.Costs.{IsCosts, unit}
 use Rattle.pt_image.specs.declared.image.Parts.{Parts}
 use Rattle.pt_trace.specs.Report.{run_text}
 use Rattle.mb_core.specs.Machine.{Whole}
-use Rattle.mb_core.specs.Run.{run}
+use Rattle.mb_step.specs.Run.{run_of}
 use Rattle.pc_small.specs.Program.{Program}
 use Rattle.pc_meaning.specs.Meaning.{moments, inputs_of}
 use Rattle.pc_compile.specs.Faithful.{IsRow, EachMeans}
@@ -36,7 +36,7 @@ read_rows width rows before after r = let P : List (List ℤ) → Type 0 = λ l.
 
 -- the ticks on the rows of the trace do what the program means
 means : (program name : List ℕ) (old new : Outside) (machine : Whole) (rows : List (List ℤ)) (outputs : List ℤ) (r : IsReady program name old new machine rows outputs)
-    → EachMeans r.stored.built.compiled.program r.image (moments r.stored.built.compiled.program rows) (run r.image unit cycles_most rows)
+    → EachMeans r.stored.built.compiled.program r.image (moments r.stored.built.compiled.program rows) (run_of r.image unit cycles_most rows)
 means program name old new machine rows outputs r =
     let compiled = r.stored.built.compiled in
     compiled.faithful unit unit_is_costs cycles_most (omega arith) rows
@@ -53,7 +53,7 @@ pub ready_ends : (program name : List ℕ) (old new : Outside) (machine : Whole)
 ready_ends program name old new machine rows outputs r =
     let P : Whole → Type 0 = λ m. NeverTraps m cycles_most rows in
     let program_of = r.stored.built.compiled.program in
-    subst P (sym r.loaded) (each_ended program_of r.image (moments program_of rows) (run r.image unit cycles_most rows) (means program name old new machine rows outputs r))
+    subst P (sym r.loaded) (each_ended program_of r.image (moments program_of rows) (run_of r.image unit cycles_most rows) (means program name old new machine rows outputs r))
 
 pub ready_done : (program name : List ℕ) (old new : Outside) (machine : Whole) (rows : List (List ℤ)) (outputs : List ℤ)
     → IsReady program name old new machine rows outputs → IsDone program name old new (run_text (told_by machine cycles_most rows))
@@ -68,6 +68,6 @@ ready_done program name old new machine rows outputs r =
         program = compiled.program;
         small = compiled.tree;
         due_is = ap (λ m. run_text (told_by m cycles_most rows)) r.loaded;
-        outputs_are = each_outputs compiled.program r.image (moments compiled.program rows) (run r.image unit cycles_most rows) (means program name old new machine rows outputs r);
+        outputs_are = each_outputs compiled.program r.image (moments compiled.program rows) (run_of r.image unit cycles_most rows) (means program name old new machine rows outputs r);
       };
     }

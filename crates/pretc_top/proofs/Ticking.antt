@@ -5,10 +5,10 @@ use Rattle.std.specs.Io.KnownBytes.{Appends}
 use Rattle.pt_outside.specs.Files.{AppendsFront}
 use Rattle.pt_trace.specs.Report.{tick_line, tick_lines, greatest, worst_line}
 use Rattle.pt_image.specs.declared.image.Parts.{Parts}
-use Rattle.mb_core.specs.State.{State}
+use Rattle.mb_step.specs.Run.{MachineState}
 use Rattle.mb_core.specs.Machine.{Whole, tick_of, tick_after}
-use Rattle.mb_core.specs.Tick.{Outcome, Ends, Trapped, tick_from}
-use Rattle.mb_core.specs.Run.{ticks_from, after_tick}
+use Rattle.mb_step.specs.Run.{Ticked, Ends, Trapped, tick_from}
+use Rattle.mb_step.specs.Run.{ticks_from, after_tick}
 use Rattle.pt_outside.specs.declared.traits.Failed.{Failed}
 use Rattle.pretc_top.specs.Told.{told, Ended, AllEnded}
 use Rattle.pretc_top.specs.Reported.{TickWritten, told_by, NeverTraps}
@@ -43,7 +43,7 @@ begins first most rows before going ended = record {
   worst_is = refl;
 }
 
-ends_first : (image : Parts) (costs : List ℕ) (most : ℕ) (rows : List (List ℤ)) (outcome : Outcome)
+ends_first : (image : Parts) (costs : List ℕ) (most : ℕ) (rows : List (List ℤ)) (outcome : Ticked)
     → AllEnded (after_tick (λ s. ticks_from image costs most s rows) outcome) → Ended outcome
 ends_first image costs most rows (Ends cycles outputs state) h = h.0
 ends_first image costs most rows (Trapped kind at charged) h = h.0
@@ -70,7 +70,7 @@ greatest_push [] tick = omega arith
 greatest_push (t ∷ ticks) tick = let e = greatest_push ticks tick in omega arith
 
 -- one tick more is done and written
-pub one_more : (first now next : Whole) (most : ℕ) (rows left : List (List ℤ)) (row : List ℤ) (before after later : Option (List ℕ)) (done worst cycles : ℕ) (outcome : Outcome)
+pub one_more : (first now next : Whole) (most : ℕ) (rows left : List (List ℤ)) (row : List ℤ) (before after later : Option (List ℕ)) (done worst cycles : ℕ) (outcome : Ticked)
     → IsUnderWay first now most rows (row ∷ left) before after done worst
     → tick_of now row most ≡ outcome
     → TickWritten outcome done now next after later (let r : Result ℕ Failed = Ok cycles in r)
@@ -81,11 +81,11 @@ one_more first now next most rows left row before after later done worst cycles 
     let same : cycles ≡ charged = t.answer in
     let run_is : tick_from first.image first.costs now.state row most ≡ Ends charged outputs state = sym (tick_is first now most row w.image w.costs w.going) ∙ o in
     let state_is : next.state ≡ state = ap (λ (m : Whole). m.state) t.machine in
-    let P : Outcome → Type 0 = λ x. told (ticks_from first.image first.costs most first.state rows) ≡ w.ticks ++ told (after_tick (λ s. ticks_from first.image first.costs most s left) x) in
-    let Q : Outcome → Type 0 = λ x. AllEnded (after_tick (λ s. ticks_from first.image first.costs most s left) x) in
+    let P : Ticked → Type 0 = λ x. told (ticks_from first.image first.costs most first.state rows) ≡ w.ticks ++ told (after_tick (λ s. ticks_from first.image first.costs most s left) x) in
+    let Q : Ticked → Type 0 = λ x. AllEnded (after_tick (λ s. ticks_from first.image first.costs most s left) x) in
     let ended = subst Q run_is w.ended in
-    let E : State → Type 0 = λ s. AllEnded (ticks_from first.image first.costs most s left) in
-    let R : State → Type 0 = λ s. told (ticks_from first.image first.costs most first.state rows) ≡ (w.ticks ++ tick ∷ []) ++ told (ticks_from first.image first.costs most s left) in
+    let E : MachineState → Type 0 = λ s. AllEnded (ticks_from first.image first.costs most s left) in
+    let R : MachineState → Type 0 = λ s. told (ticks_from first.image first.costs most first.state rows) ≡ (w.ticks ++ tick ∷ []) ++ told (ticks_from first.image first.costs most s left) in
     let run = subst P run_is w.run in
     let W : List ℕ → Type 0 = λ text. Appends before later text in
     let T : ℕ → Type 0 = λ n. Appends after later (tick_line n outputs (Some charged)) in
@@ -110,13 +110,13 @@ lines_append k (x ∷ xs) ys =
     ap (λ l. tick_line k x.0 (Some x.1) ++ l) (lines_append (k + 1) xs ys ∙ ap (λ n. tick_lines (k + 1) xs ++ tick_lines n ys) e)
     ∙ together (tick_line k x.0 (Some x.1)) (tick_lines (k + 1) xs) (tick_lines (k + suc (length xs)) ys)
 
-counted_by : (image : Parts) (costs : List ℕ) (most : ℕ) (rows : List (List ℤ)) (outcome : Outcome)
-    → ((s : State) → AllEnded (ticks_from image costs most s rows) → length (told (ticks_from image costs most s rows)) ≡ length rows)
+counted_by : (image : Parts) (costs : List ℕ) (most : ℕ) (rows : List (List ℤ)) (outcome : Ticked)
+    → ((s : MachineState) → AllEnded (ticks_from image costs most s rows) → length (told (ticks_from image costs most s rows)) ≡ length rows)
     → AllEnded (after_tick (λ t. ticks_from image costs most t rows) outcome) → length (told (after_tick (λ t. ticks_from image costs most t rows) outcome)) ≡ suc (length rows)
 counted_by image costs most rows (Ends cycles outputs state) next h = ap suc (next state h.1)
 counted_by image costs most rows (Trapped kind at charged) next h = absurd h.0
 
-told_count : (image : Parts) (costs : List ℕ) (most : ℕ) (s : State) (rows : List (List ℤ)) → AllEnded (ticks_from image costs most s rows) → length (told (ticks_from image costs most s rows)) ≡ length rows
+told_count : (image : Parts) (costs : List ℕ) (most : ℕ) (s : MachineState) (rows : List (List ℤ)) → AllEnded (ticks_from image costs most s rows) → length (told (ticks_from image costs most s rows)) ≡ length rows
 told_count image costs most s [] h = refl
 told_count image costs most s (row ∷ rows) h = counted_by image costs most rows (tick_from image costs s row most) (λ t k. told_count image costs most t rows k) h
 
@@ -124,7 +124,7 @@ pub told_by_count : (m : Whole) (most : ℕ) (rows : List (List ℤ)) → NeverT
 told_by_count m most rows h = told_count m.image m.costs most m.state rows h
 
 -- a line that couldn't be written whole
-pub breaks : (first now next : Whole) (most : ℕ) (rows left : List (List ℤ)) (row : List ℤ) (before after later : Option (List ℕ)) (done worst : ℕ) (outcome : Outcome) (failed : Failed) (more : List ℕ)
+pub breaks : (first now next : Whole) (most : ℕ) (rows left : List (List ℤ)) (row : List ℤ) (before after later : Option (List ℕ)) (done worst : ℕ) (outcome : Ticked) (failed : Failed) (more : List ℕ)
     → IsUnderWay first now most rows (row ∷ left) before after done worst
     → tick_of now row most ≡ outcome
     → TickWritten outcome done now next after later (let r : Result ℕ Failed = Err failed in r)
@@ -134,7 +134,7 @@ breaks first now next most rows left row before after later done worst (Ends cha
     let tick : List ℤ × ℕ = (outputs, charged) in
     let rest = told (ticks_from first.image first.costs most state left) in
     let run_is : tick_from first.image first.costs now.state row most ≡ Ends charged outputs state = sym (tick_is first now most row w.image w.costs w.going) ∙ o in
-    let P : Outcome → Type 0 = λ x. told_by first most rows ≡ w.ticks ++ told (after_tick (λ s. ticks_from first.image first.costs most s left) x) in
+    let P : Ticked → Type 0 = λ x. told_by first most rows ≡ w.ticks ++ told (after_tick (λ s. ticks_from first.image first.costs most s left) x) in
     let run : told_by first most rows ≡ w.ticks ++ tick ∷ rest = subst P run_is w.run in
     let number : 0 + length w.ticks ≡ done = let e = w.count in omega arith in
     let text : tick_lines 0 (told_by first most rows) ++ more ≡ tick_lines 0 w.ticks ++ (tick_line done outputs (Some charged) ++ (tick_lines (done + 1) rest ++ more)) =

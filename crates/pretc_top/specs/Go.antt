@@ -9,7 +9,7 @@ use Rattle.pt_trace.specs.Report.{run_text}
 use Rattle.pt_image.specs.declared.image.Parts.{Parts}
 use Rattle.pt_image.specs.Text.{text_of}
 use Rattle.mb_isa.specs.Costs.{unit}
-use Rattle.mb_core.specs.Run.{run}
+use Rattle.mb_step.specs.Run.{run_of}
 use Rattle.pt_base.specs.declared.Rule.{Rule}
 use Rattle.pt_base.specs.declared.Span.{Span}
 use Rattle.pt_trace.specs.Refused.{refused_line}
@@ -102,8 +102,8 @@ pub data IsBadTrace (width : ℕ) (before after : Option (List ℕ)) : Type 0 wh
 pub record IsReport (tree : Program) (image : Parts) (rows : List (List ℤ)) (due : List ℕ) : Type 0 where
   pub program : small.Program
   pub small : IsTreeOf tree.items program
-  pub due_is : due ≡ run_text (told (run image unit cycles_most rows))
-  pub outputs_are : map (λ (tick : List ℤ × ℕ). tick.0) (told (run image unit cycles_most rows)) ≡ meaning_of program rows
+  pub due_is : due ≡ run_text (told (run_of image unit cycles_most rows))
+  pub outputs_are : map (λ (tick : List ℤ × ℕ). tick.0) (told (run_of image unit cycles_most rows)) ≡ meaning_of program rows
 
 -- the command was done
 pub record IsDone (program name : List ℕ) (old new : Outside) (due : List ℕ) : Type 0 where

@@ -4,19 +4,19 @@ use Rattle.std.specs.Io.KnownBytes.{Appends}
 use Rattle.pt_outside.specs.Files.{AppendsFront}
 use Rattle.pt_trace.specs.Report.{tick_line}
 use Rattle.mb_core.specs.Machine.{Whole}
-use Rattle.mb_core.specs.Run.{ticks_from}
+use Rattle.mb_step.specs.Run.{ticks_from}
 use Rattle.pretc_top.specs.Told.{told, AllEnded}
-use Rattle.mb_core.specs.State.{State}
-use Rattle.mb_core.specs.Tick.{Outcome, Ends, Trapped}
+use Rattle.mb_step.specs.Run.{MachineState}
+use Rattle.mb_step.specs.Run.{Ticked, Ends, Trapped}
 
 -- the machine has done a tick that ended, and its line was written, or a front of it
-pub record IsTickWritten {E : Type 0} (cycles : ℕ) (outputs : List ℤ) (state : State) (tick : ℕ) (old new : Whole) (before after : Option (List ℕ)) (result : Result ℕ E) : Type 0 where
+pub record IsTickWritten {E : Type 0} (cycles : ℕ) (outputs : List ℤ) (state : MachineState) (tick : ℕ) (old new : Whole) (before after : Option (List ℕ)) (result : Result ℕ E) : Type 0 where
   pub machine : new ≡ record old { state = state; trap = None }
   pub answer : IfOk result (λ answered. answered ≡ cycles)
   pub line : OnOk result (Appends before after (tick_line tick outputs (Some cycles)))
   pub front : OnErr result (AppendsFront before after (tick_line tick outputs (Some cycles)))
 
-abbrev pub TickWritten : {E : Type 0} → Outcome → ℕ → Whole → Whole → Option (List ℕ) → Option (List ℕ) → Result ℕ E → Type 0
+abbrev pub TickWritten : {E : Type 0} → Ticked → ℕ → Whole → Whole → Option (List ℕ) → Option (List ℕ) → Result ℕ E → Type 0
 TickWritten (Ends cycles outputs state) tick old new before after result = IsTickWritten cycles outputs state tick old new before after result
 TickWritten (Trapped kind at charged) tick old new before after result = ⊥
 

@@ -5,7 +5,6 @@ ghost use Rattle.pretc_top.specs.Readying.{IsReady};
 ghost use Rattle.pretc_top.specs.Reported.{told_by, NeverTraps};
 ghost use Rattle.pt_trace.specs.Report.{run_text};
 ghost use Rattle.mb_isa.specs.Costs.{unit};
-ghost use Rattle.mb_core.specs.Plain.{IsPlain};
 ghost use Rattle.mb_core.specs.Machine.{fresh};
 
 use crate::ending::{close, finish_with};
@@ -33,7 +32,6 @@ struct Ready {
 
 // What running the image takes from memory.
 fn load_machine(alloc: Global, image: &Image) -> Result<(Machine, Vec<i32>), Memory>
-    requires { IsPlain image.now }
     ensures machine { IfOk result (λ loaded. loaded.0 ≡ fresh image.now unit) }
     ensures outputs { IfOk result (λ loaded. length loaded.1.items ≡ length image.now.outputs) }
 {

@@ -18,13 +18,16 @@ use Rattle.tk_cert.specs.declared.cert.Line.TheVariants as line
 use Rattle.tk_cert.specs.declared.cert.CertParts.{CertParts}
 use Rattle.tk_cert.specs.Shapes.{IsShaped}
 use Rattle.tk_cert.specs.Demands.{Demand, shape_demand, AllHold}
-use Rattle.tk_bound.specs.Sums.{Side, ToPause, ToEnd, plus, greater, or_zero, resumed_ends, resumed_paused, greatest}
+use Rattle.tk_bound.specs.declared.view.Side.{Side}
+use Rattle.tk_bound.specs.declared.view.Side.TheVariants.{ToPause, ToEnd}
+use Rattle.tk_bound.specs.Sums.{plus, greater, or_zero, resumed_ends, resumed_paused, greatest}
 use Rattle.tk_bound.specs.declared.word.Word.{Word}
 use Rattle.tk_bound.specs.declared.word.Word.TheVariants.{Fork}
 use Rattle.tk_bound.specs.Words.{word_of, instr_at, read_instr, read}
 use Rattle.tk_bound.specs.Kinds.{line_at, is_thread, is_cond, upper_at, word_at, places_of, start_of, abort_at, points_at, places_of_abort, no_abort, asked_by_aborts, asked_from}
 use Rattle.tk_bound.specs.Shape.{has_number, word_is_shaped, aborts_are_shaped, says_well, pause_is_shaped, fork_is_shaped, apart, is_pause_word, is_fork_word, children_in, children_at, meet, earlier, is_apart}
-use Rattle.tk_bound.specs.Acceptance.{On, number_in, views_of, more, number, value, resumed, begins, strong_handlers, conditions, word_edges, line_edges, word_pauses, word_forks, resumes, resumed_strong, pause_resumes, resumed_handlers, resumed_join, has_resumed, fork_resumes, on_side}
+use Rattle.tk_bound.specs.declared.view.View.TheVariants.{On}
+use Rattle.tk_bound.specs.Acceptance.{number_in, views_of, more, number, value, resumed, begins, strong_handlers, conditions, word_edges, line_edges, word_pauses, word_forks, resumes, resumed_strong, pause_resumes, resumed_handlers, resumed_join, has_resumed, fork_resumes, on_side}
 use Rattle.tk_bound.proofs.Inner.{Image}
 use Rattle.tk_bound.proofs.Conditions.{Cert, Bare, Thread, Routine, IsBare, Pays, IsPlain, IsAt, AreAborts, IsThreadFine}
 use Rattle.tk_bound.proofs.BySums.{Asks, EachWeak, EachStrong, IsFineWritten, StrongPay, IsPauseWritten, ForkResumes, HasResumed, IsForkWritten, IsAcceptedWritten}

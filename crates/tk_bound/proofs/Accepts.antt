@@ -9,10 +9,13 @@ use Rattle.tk_cert.specs.declared.cert.Line.TheVariants as line
 use Rattle.tk_cert.specs.declared.cert.CertParts.{CertParts}
 use Rattle.tk_cert.specs.Shapes.{IsShaped, IsCert}
 use Rattle.tk_cert.specs.Demands.{Demand, at_least, AllHold}
-use Rattle.tk_bound.specs.Sums.{ToPause, ToEnd, plus, lowered}
+use Rattle.tk_bound.specs.declared.view.Side.TheVariants.{ToPause, ToEnd}
+use Rattle.tk_bound.specs.Sums.{plus, lowered}
 use Rattle.tk_bound.specs.Kinds.{loops_of}
 use Rattle.tk_bound.specs.Shape.{in_thread}
-use Rattle.tk_bound.specs.Acceptance.{View, On, Value, levels_of, stack_of, levels, views_of, more, asks}
+use Rattle.tk_bound.specs.declared.view.View.{View}
+use Rattle.tk_bound.specs.declared.view.View.TheVariants.{On, Value}
+use Rattle.tk_bound.specs.Acceptance.{levels_of, stack_of, levels, views_of, more, asks}
 use Rattle.tk_bound.proofs.Conditions.{Cert, Bare, Thread, Routine, Cond, IsBare, Fits, seen, Pays, Reach, IsPlain, IsAt, AreAborts, ThreadIs, LoopsAre, InnerIs, Below, Views, Levels, with_loops, IsThreadFine}
 use Rattle.tk_bound.proofs.Conditions as kinds
 use Rattle.tk_bound.proofs.BySums.{Asks}

@@ -9,7 +9,8 @@ use Rattle.tk_bound.proofs.Slots.{first_cond, next_cond, next_cond_among}
 use Rattle.tk_bound.specs.declared.word.Word.{Word}
 use Rattle.tk_bound.specs.declared.word.Word.TheVariants.{Fork}
 use Rattle.tk_bound.proofs.Inner.{Image, stack, AreListed, IsLoose, AreLoose}
-use Rattle.tk_bound.specs.Sums.{Side, ToPause, ToEnd}
+use Rattle.tk_bound.specs.declared.view.Side.{Side}
+use Rattle.tk_bound.specs.declared.view.Side.TheVariants.{ToPause, ToEnd}
 use Rattle.tk_bound.proofs.Conditions.{Cert, Thread, Cond, both_sides, After, IsAt, AreAborts, Tested, Ends, Over, With, both_ends, Resumes, Resumed, IsAccepted}
 use Rattle.tk_bound.proofs.Values.{Dom, Val, GVal}
 use Rattle.tk_bound.proofs.Rights.{old-is, old-within, IsRight, AreRight}

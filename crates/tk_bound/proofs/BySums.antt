@@ -1,9 +1,11 @@
--- A4 to A6 by greatest sums, as they are written and computed; the other conditions are those of `Cert`.
+-- The sums of A4 to A6 as they are asked; the other conditions are those of `Conditions`.
 use Rattle.std.specs.Prelude.{length, ◌≡◌, ◌≤◌, ◌<◌, ℕ, zero, suc, ◌+◌, true, false, List, [], ◌∷◌, Option, Some, None}
 use Rattle.tk_bound.specs.declared.word.Word.{Word}
 use Rattle.tk_bound.specs.declared.word.Word.TheVariants.{Eot, Fork}
 use Rattle.tk_bound.proofs.Inner.{Image}
-use Rattle.tk_bound.specs.Sums.{Side, ToPause, plus, all_ends, most_paused, resumed_ends, resumed_paused}
+use Rattle.tk_bound.specs.declared.view.Side.{Side}
+use Rattle.tk_bound.specs.declared.view.Side.TheVariants.{ToPause}
+use Rattle.tk_bound.specs.Sums.{plus, all_ends, most_paused, resumed_ends, resumed_paused}
 use Rattle.tk_bound.proofs.Conditions.{Cert, Line, Thread, IsBare, Pays, upper_at, IsPlain, IsAt, ThreadIs, Levels, IsThreadFine, IsFine}
 use Rattle.mb_isa.specs.declared.Class.TheVariants as class
 

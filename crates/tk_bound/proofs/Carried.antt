@@ -15,7 +15,8 @@ use Rattle.tk_cert.specs.declared.cert.CertParts.{CertParts}
 use Rattle.tk_bound.specs.Words.{read}
 use Rattle.tk_bound.specs.Kinds.{line_at, is_thread, is_routine, is_cond, loops_of, is_inside, same_kind, upper_at, start_of, abort_at}
 use Rattle.tk_bound.specs.Shape.{weight_in}
-use Rattle.tk_bound.specs.Acceptance.{On, number, value, resumed}
+use Rattle.tk_bound.specs.declared.view.View.TheVariants.{On}
+use Rattle.tk_bound.specs.Acceptance.{number, value, resumed}
 use Rattle.tk_bound.proofs.Inner.{Image}
 use Rattle.tk_bound.proofs.Conditions.{Cert, Bare, Thread, Routine, Cond, with_loops}
 use Rattle.tk_bound.proofs.Conditions as kinds

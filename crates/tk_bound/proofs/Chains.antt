@@ -2,8 +2,9 @@
 use Rattle.std.proofs.Common.{◌≡◌, ◌≤◌, ◌<◌, ◌+◌, ◌*◌, ℕ, Bool, true, false, List, [], ◌∷◌, Option, Some, refl, sym, ap, ◌∙◌, subst, arith, length}
 use Rattle.std.proofs.lemmas.Bool.{false≢true}
 use Rattle.tk_bound.proofs.Inner.{Image}
-use Rattle.tk_bound.specs.Sums.{Side}
-use Rattle.tk_bound.specs.Acceptance.{View, On, Value}
+use Rattle.tk_bound.specs.declared.view.Side.{Side}
+use Rattle.tk_bound.specs.declared.view.View.{View}
+use Rattle.tk_bound.specs.declared.view.View.TheVariants.{On, Value}
 use Rattle.tk_bound.proofs.Conditions.{seen, Fits, Views, Reach, Cert, Line, Thread, Routine, Cond, loops_of, with_loops, LoopsAre, ThreadIs, Below, IsBare, IsThreadFine}
 use Rattle.tk_bound.proofs.Values.{Dom}
 

@@ -1,4 +1,4 @@
--- Acceptance: what each place's line, the listed pauses and forks, and the bound are to meet. Loops stand innermost first.
+-- Acceptance as relations between places, as the proofs go through it. Loops stand innermost first.
 use Rattle.std.specs.Prelude.{length, ◌≡◌, ◌⊎◌, ◌≤◌, ◌<◌, ℕ, ℤ, zero, suc, ◌+◌, ◌*◌, ◌++◌, min, Bool, true, false, List, [], ◌∷◌, Option, Some, None}
 use Rattle.mb_pfu.specs.Tree.{Tree, has_ready}
 use Rattle.tk_bound.specs.declared.word.Word.{Word}
@@ -6,8 +6,10 @@ use Rattle.tk_bound.specs.declared.word.Word.TheVariants.{Does, Imm, Jump, Branc
 use Rattle.tk_bound.proofs.Inner.{Image, State, Traps, IsConfiguration, Step, Path, Guided, InTurns, begun_free}
 use Rattle.mb_pfu.specs.declared.parts.TrapKind.{TrapKind}
 use Rattle.mb_isa.specs.declared.Class.TheVariants as class
-use Rattle.tk_bound.specs.Sums.{Side, ToPause, ToEnd}
-use Rattle.tk_bound.specs.Acceptance.{View, On, Value}
+use Rattle.tk_bound.specs.declared.view.Side.{Side}
+use Rattle.tk_bound.specs.declared.view.Side.TheVariants.{ToPause, ToEnd}
+use Rattle.tk_bound.specs.declared.view.View.{View}
+use Rattle.tk_bound.specs.declared.view.View.TheVariants.{On, Value}
 
 -- what a line says but for its numbers
 pub data Line : Type 0 where

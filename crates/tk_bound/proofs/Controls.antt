@@ -31,7 +31,7 @@ use Rattle.tk_bound.proofs.Conditions.{Cert, IsAccepted}
 use Rattle.tk_bound.proofs.Firsts.{job}
 use Rattle.tk_bound.proofs.Finds.{turn_of}
 use Rattle.tk_bound.proofs.Rests.{plug-ready}
-use Rattle.tk_bound.proofs.Steps.{IsRunning, IsCalm, IsTurned, turn-running}
+use Rattle.tk_bound.proofs.Running.{IsRunning, IsCalm, IsTurned, turn-running}
 use Rattle.tk_bound.proofs.Whole.{IsTested, IsInTest, IsOutKept, step-kept}
 use Rattle.tk_bound.proofs.Sums.{accepted_by_sums}
 use Rattle.tk_bound.proofs.Carried.{image_of, cert_of}

@@ -7,7 +7,7 @@ use Rattle.tk_bound.proofs.Slots.{middle, without_last}
 use Rattle.mb_pfu.specs.Unit.{fresh}
 use Rattle.mb_pfu.specs.Rows.{with_last}
 use Rattle.tk_bound.proofs.Inner.{Image, stack, begun}
-use Rattle.tk_bound.specs.Sums.{Side}
+use Rattle.tk_bound.specs.declared.view.Side.{Side}
 use Rattle.tk_bound.proofs.Conditions.{Cert, Thread, IsAt, Sum, Starts}
 use Rattle.tk_bound.proofs.Values.{GVal}
 use Rattle.tk_bound.proofs.Rights.{AreNew, AreOld, IsWaiting, IsRight, AreRight, IsContextRight, size-same, join-right}

@@ -15,13 +15,17 @@ use Rattle.tk_cert.specs.declared.cert.Line.TheVariants as line
 use Rattle.tk_cert.specs.declared.cert.CertParts.{CertParts}
 use Rattle.tk_cert.specs.Shapes.{IsShaped}
 use Rattle.tk_cert.specs.Demands.{Demand, at_least, AllHold}
-use Rattle.tk_bound.specs.Sums.{Side, ToPause, ToEnd, plus, or_zero, lowered, all_ends, most_paused}
+use Rattle.tk_bound.specs.declared.view.Side.{Side}
+use Rattle.tk_bound.specs.declared.view.Side.TheVariants.{ToPause, ToEnd}
+use Rattle.tk_bound.specs.Sums.{plus, or_zero, lowered, all_ends, most_paused}
 use Rattle.tk_bound.specs.declared.word.Word.{Word}
 use Rattle.tk_bound.specs.declared.word.Word.TheVariants.{Does, Imm, Jump, Branch, Fork, Eot, End, Abrt, Leave, Call, Ret, Loop, Next, Drop, Cend}
 use Rattle.tk_bound.specs.Words.{instr_at}
 use Rattle.tk_bound.specs.Kinds.{line_at, is_thread, is_cond, loops_of, is_inside, upper_at, word_at, start_of, abort_at, place_in, asked_by_word, is_asked}
 use Rattle.tk_bound.specs.Shape.{weight_in, may_follow, on_last, may_call, may_return, may_loop, keeps_kind, children_start, word_is_shaped}
-use Rattle.tk_bound.specs.Acceptance.{View, On, Value, level_of, stack_of, levels, views_of, more, number, value, weight, begins, weak_handlers, edge, closing, inner_weight, word_edges, pause_handlers, pause_at_level, word_pauses, fork_ends, fork_handlers, fork_at_level, word_forks}
+use Rattle.tk_bound.specs.declared.view.View.{View}
+use Rattle.tk_bound.specs.declared.view.View.TheVariants.{On, Value}
+use Rattle.tk_bound.specs.Acceptance.{level_of, stack_of, levels, views_of, more, number, value, weight, begins, weak_handlers, edge, closing, inner_weight, word_edges, pause_handlers, pause_at_level, word_pauses, fork_ends, fork_handlers, fork_at_level, word_forks}
 use Rattle.tk_bound.proofs.Inner.{Image}
 use Rattle.tk_bound.proofs.Conditions.{Cert, Bare, Thread, Routine, Cond, IsBare, Fits, seen, Pays, Reach, IsPlain, IsAt, AreAborts, ThreadIs, LoopsAre, InnerIs, Below, Views, Levels, with_loops, IsThreadFine}
 use Rattle.tk_bound.proofs.Conditions as kinds

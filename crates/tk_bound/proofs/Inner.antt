@@ -1,4 +1,4 @@
--- The free tick: the machine's tick without registers and memory. Links and counters are lists with the latest first.
+-- The inner machine of the proofs: a step of the slot in its context, or of a condition, whatever the data are. Links and counters are lists with the latest first.
 use Rattle.std.specs.Prelude.{not, map, length, nat_le, nat_lt, ◌≡◌, ℕ, ℤ, zero, suc, ◌+◌, ◌==◌, ◌||◌, Bool, true, false, List, [], ◌∷◌, Option, Some, None}
 use Rattle.mb_pfu.specs.declared.parts.Watch.{Watch}
 use Rattle.mb_pfu.specs.Tree.{Running, Pausing, Finished, Tree, Group, Leaf, Waits, no_more, member, size, all_ended, pause_at, tests_begun, all_woken}

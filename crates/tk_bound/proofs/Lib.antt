@@ -9,6 +9,7 @@ pub mod Chains
 pub mod Firsts
 pub mod Entries
 pub mod Sounds
+pub mod Running
 pub mod Steps
 pub mod Tests
 pub mod Begins

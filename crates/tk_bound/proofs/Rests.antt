@@ -7,7 +7,7 @@ use Rattle.mb_pfu.specs.Contexts.{filled, Context, plug}
 use Rattle.tk_bound.proofs.Inner.{Image, AreListed, IsLoose, AreLoose, IsConfiguration, loose}
 use Rattle.tk_bound.proofs.Conditions.{Cert}
 use Rattle.tk_bound.proofs.Rights.{AreNew, AreOld, IsRight, AreRight}
-use Rattle.tk_bound.proofs.Steps.{IsTurned}
+use Rattle.tk_bound.proofs.Running.{IsTurned}
 
 or-false : (a b : Bool) → a || b ≡ false → (a ≡ false) × (b ≡ false)
 or-false true b h = absurd (false≢true (sym h))

@@ -9,7 +9,8 @@ use Rattle.tk_bound.proofs.Slots.{beyond, middle}
 use Rattle.tk_bound.specs.declared.word.Word.TheVariants.{Fork}
 use Rattle.tk_bound.proofs.Inner.{Image, stack, IsListed}
 use Rattle.tk_bound.proofs.Conditions.{IsPlain, Cert, Thread, both_sides, Handled, AreAborts}
-use Rattle.tk_bound.specs.Sums.{Side, ToPause, ToEnd}
+use Rattle.tk_bound.specs.declared.view.Side.{Side}
+use Rattle.tk_bound.specs.declared.view.Side.TheVariants.{ToPause, ToEnd}
 use Rattle.tk_bound.proofs.Values.{old, Val, GVal}
 
 module _ (image : Image) where

@@ -9,7 +9,8 @@ use Rattle.tk_bound.proofs.Slots.{beyond, middle}
 use Rattle.tk_bound.specs.declared.word.Word.{Word}
 use Rattle.tk_bound.specs.declared.word.Word.TheVariants.{Eot, Fork}
 use Rattle.tk_bound.proofs.Inner.{Image, stack}
-use Rattle.tk_bound.specs.Sums.{Side, ToPause, ToEnd}
+use Rattle.tk_bound.specs.declared.view.Side.{Side}
+use Rattle.tk_bound.specs.declared.view.Side.TheVariants.{ToPause, ToEnd}
 use Rattle.tk_bound.proofs.Conditions.{Cert, Line, Thread, IsBare, Pays, Rests, Handled, upper_at, IsPlain, IsAt, AreAborts, IsThreadFine, IsFine, IsAccepted}
 use Rattle.tk_bound.proofs.Values.{old, Dom, Val, GVal, FVal, CVal, frame-in, context-dom, dom-dom, dom-same}
 use Rattle.tk_bound.proofs.Rights.{AreKept, old-is, old-within, relieves-all, IsWaiting, IsRight, AreRight, IsFrameRight, IsContextRight, size-same, join-right, any-unended, rest_side, rest-values}

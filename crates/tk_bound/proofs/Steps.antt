@@ -1,5 +1,5 @@
 -- A step of a turn: it doesn't trap, and its charge comes off every number.
-use Rattle.std.proofs.Common.{ℤ, ◌≡◌, ◌⊎◌, ◌≤◌, ◌<◌, ◌+◌, ◌*◌, ◌++◌, min, ℕ, zero, suc, Bool, true, false, not, ◌||◌, nat_le, nat_lt, List, [], ◌∷◌, Option, Some, None, refl, sym, ap, ◌∙◌, subst, inl, inr, ⊎_elim, arith, length}
+use Rattle.std.proofs.Common.{ℤ, ◌≡◌, ◌≤◌, ◌<◌, ◌+◌, ◌*◌, ◌++◌, min, ℕ, zero, suc, Bool, true, false, not, ◌||◌, nat_le, nat_lt, List, [], ◌∷◌, Option, Some, None, refl, sym, ap, ◌∙◌, subst, inl, inr, arith, length}
 use Rattle.std.proofs.lemmas.Bool.{false≢true}
 use Rattle.std.proofs.lemmas.Bool.Decides.{nat_tests}
 use Rattle.std.proofs.lemmas.Option.{same_Some}
@@ -11,123 +11,25 @@ use Rattle.tk_bound.proofs.Slots.{middle, without_last}
 use Rattle.mb_pfu.specs.Unit.{fresh}
 use Rattle.tk_bound.specs.declared.word.Word.{Word}
 use Rattle.tk_bound.specs.declared.word.Word.TheVariants.{Does, Imm, Jump, Branch, Eot, Fork, End, Abrt, Leave, Call, Ret, Loop, Next, Drop, Cend}
-use Rattle.tk_bound.proofs.Inner.{Image, State, Outcome, Goes, Traps, Stops, InTurns, stack, unless, is_none, is_nested, is_busy, is_zero, begun, going, branched, returned, turned, dropped, effect, turn_at, Turn, IsSound}
+use Rattle.tk_bound.proofs.Inner.{Image, State, Outcome, Goes, InTurns, stack, unless, is_none, is_nested, is_busy, is_zero, begun, going, branched, returned, turned, dropped, effect, turn_at, Turn, IsSound}
 use Rattle.mb_pfu.specs.declared.parts.TrapKind.{TrapKind}
 use Rattle.mb_pfu.specs.declared.parts.TrapKind.TheVariants.{WrongPlace, TableFull, TableEmpty, SlotBusy}
-use Rattle.tk_bound.proofs.Conditions.{upper_at, IsPlain, IsAt, seen, Fits, Views, Levels, Reach, Pays, Cert, Line, Thread, Routine, IsBare, loops_of, with_loops, InnerIs, ThreadIs, Sum, Starts, After, Rests, IsFine, IsAccepted}
-use Rattle.tk_bound.specs.Sums.{Side, ToEnd}
-use Rattle.tk_bound.proofs.Values.{old, Dom, Val, CVal, context-dom, dom-dom, dom-after, plug-in, plug-out}
-use Rattle.tk_bound.proofs.Rights.{AreKept, old-is, old-within, IsRight, IsContextRight, plug-right}
+use Rattle.tk_bound.proofs.Conditions.{upper_at, IsAt, seen, Fits, Views, Levels, Reach, Pays, Cert, Line, Thread, Routine, IsBare, loops_of, with_loops, InnerIs, ThreadIs, Sum, Starts, After, Rests, IsFine, IsAccepted}
+use Rattle.tk_bound.specs.declared.view.Side.{Side}
+use Rattle.tk_bound.specs.declared.view.Side.TheVariants.{ToEnd}
+use Rattle.tk_bound.proofs.Values.{old, Dom, Val, CVal, context-dom, dom-after, plug-in}
+use Rattle.tk_bound.proofs.Rights.{AreKept, old-is, old-within, IsRight}
 use Rattle.tk_bound.proofs.Settles.{climbs, pauses}
 use Rattle.tk_bound.proofs.Chains.{IsCounted, Turns, Owes, viewed, owes-in, owes-out, Chain, chain_loops, chain_rest, chain-counted, loops-same, rebuild, rebuild-same, recounted, not-cond, chain-there, loops-next, fits, lowered, loops-are, chain-calm, on-dom, height, counter-room, call-room, raised}
-use Rattle.tk_bound.proofs.Firsts.{Job, job, one-turn}
+use Rattle.tk_bound.proofs.Running.{under-dom, OwesIn, ArePlain, IsRunning, IsTurned, IsTurnKept, leaf-owes, owes-leaf, turn-running}
+use Rattle.tk_bound.proofs.Firsts.{job}
 use Rattle.tk_bound.proofs.Entries.{not-empty, stack-last, enters, leaves, size-begun, begun-right, begun-unended, begun-values, right-plug}
 use Rattle.tk_bound.proofs.Sounds.{plug-more, sound-less, sound-leaf, climb-less, not-busy, sound-fork, children-free}
 use Rattle.mb_isa.specs.declared.Class.TheVariants as class
 
 module _ (image : Image) (cert : Cert) where
-  -- with so much charged, no number of these passes the bound
-  abbrev pub Under : ℕ → (Side → ℕ → Type 0) → Type 0
-  Under charged V = (side : Side) (n : ℕ) → V side n → image.base + (charged + n) ≤ cert.bound
-
-  pub under-dom : (charged c : ℕ) (V W : Side → ℕ → Type 0) → Dom c V W → Under charged V → Under (charged + c) W
-  under-dom charged c V W d u side n w =
-      let r = d side n w in
-      let b : image.base + (charged + r.0) ≤ cert.bound = u side r.0 r.1 in
-      omega (arith, b, r.2)
-
-  pub under-same : (charged : ℕ) (V W : Side → ℕ → Type 0) → Dom 0 V W → Under charged V → Under charged W
-  under-same charged V W d u side n w =
-      let r = d side n w in
-      let b : image.base + (charged + r.0) ≤ cert.bound = u side r.0 r.1 in
-      omega (arith, b, r.2)
-
-  abbrev pub OwesIn : List Watch → ℕ → List ℕ → List ℕ → Side → ℕ → Type 0
-  OwesIn watches place links counters side n = Owes cert side (old watches) place links counters n
-
-  -- the places to which links lead are read with no upper half
-  abbrev pub ArePlain : List ℕ → Type 0
-  ArePlain [] = Unit {0}
-  ArePlain (x ∷ links) = IsPlain image cert x × ArePlain links
-
-  pub record IsRunning (charged : ℕ) (j : Job) (links counters : List ℕ) (upper : Option ℤ) : Type 0 where
-    pub upper_is : upper ≡ upper_at image cert j.place
-    pub links_plain : ArePlain links
-    pub round : IsContextRight image cert j.context
-    pub kept : AreKept image j.watches
-    pub chain : Chain cert (middle j.context) (stack j.watches) 0 j.place links counters
-    pub covers : Under charged (CVal image cert j.context (OwesIn j.watches j.place links counters))
-
-  -- no slot is inside a routine or a loop
-  pub record IsCalm (charged : ℕ) (t : Tree) (links counters : List ℕ) (upper : Option ℤ) : Type 0 where
-    pub upper_is : upper ≡ None
-    pub links_are : links ≡ []
-    pub counters_are : counters ≡ []
-    pub right : IsRight image cert 0 t
-    pub covers : Under charged (Val image cert t)
-
-  -- the first ready slot may be
-  pub record IsBusy (charged : ℕ) (t : Tree) (links counters : List ℕ) (upper : Option ℤ) : Type 0 where
-    pub runs : Job
-    pub is_there : t ≡ plug runs.context (Leaf runs.watches (Running runs.place))
-    pub quiet : IsQuietBefore runs.context
-    pub running : IsRunning charged runs links counters upper
-
-  abbrev pub IsTurned : ℕ → Tree → List ℕ → List ℕ → Option ℤ → Type 0
-  IsTurned charged t links counters upper = IsSound image t × (IsCalm charged t links counters upper ⊎ IsBusy charged t links counters upper)
-
-  -- the outcome of a step of a turn
-  abbrev pub IsTurnKept : ℕ → Outcome → Type 0
-  IsTurnKept charged (Goes c next) = (next.phase ≡ InTurns) × IsTurned (charged + c) next.tree next.links next.counters next.upper
-  IsTurnKept charged (Traps kind) = ⊥
-  IsTurnKept charged Stops = Unit {0}
-
-  -- a leaf that runs owes its number alone
-  pub leaf-owes : (watches : List Watch) (place s : ℕ) (a : List ℕ) → cert.line place ≡ Thread s a [] → Dom 0 (Val image cert (Leaf watches (Running place))) (OwesIn watches place [] [])
-  leaf-owes watches place s a l side n h =
-      let T : List ℕ → Type 0 = λ x. Turns cert x [] h.3 h.1 in
-      let t = subst T (ap loops_of l) h.5 in
-      let r = h.6 in
-      (h.0, h.4, (let e = h.7 in let t0 = t.1 in let r0 = r.1 in omega (arith, e, t0, r0)))
-
-  pub owes-leaf : (watches : List Watch) (place s : ℕ) (a : List ℕ) → cert.line place ≡ Thread s a [] → Dom 0 (OwesIn watches place [] []) (Val image cert (Leaf watches (Running place)))
-  owes-leaf watches place s a l side n h =
-      let T : List ℕ → Type 0 = λ x. Turns cert x [] [] 0 in
-      (n, (n, 0, 0, [], h, subst T (sym (ap loops_of l)) (refl, refl), (refl, refl), omega arith), omega arith)
-
-  -- where the tree's slots stand right, the first that is ready runs
-  calm-running : (charged : ℕ) (j : Job) (t : Tree) (links counters : List ℕ) (upper : Option ℤ) → t ≡ plug j.context (Leaf j.watches (Running j.place)) → IsCalm charged t links counters upper → IsRunning charged j links counters upper
-  calm-running charged j t links counters upper e c =
-      let leaf = Leaf j.watches (Running j.place) in
-      let R : Tree → Type 0 = IsRight image cert 0 in
-      let U : Tree → Type 0 = λ x. Under charged (Val image cert x) in
-      let r = plug-right image cert j.context leaf (subst R e c.right) in
-      let P : List ℕ → List ℕ → Type 0 = λ l x. IsRunning charged j l x upper in
-      let V = CVal image cert j.context (Val image cert leaf) in
-      let W = CVal image cert j.context (OwesIn j.watches j.place [] []) in
-      let base : IsRunning charged j [] [] upper = record {
-        upper_is = c.upper_is ∙ sym r.1.2;
-        links_plain = tt;
-        round = r.0;
-        kept = r.1.1;
-        chain = ([], r.1.0, refl);
-        covers = under-same charged (Val image cert (plug j.context leaf)) W
-            (dom-dom image cert 0 0 (Val image cert (plug j.context leaf)) V W (plug-out image cert j.context leaf)
-            (context-dom image cert 0 (Val image cert leaf) (OwesIn j.watches j.place [] []) (leaf-owes j.watches j.place (middle j.context) (stack j.watches) r.1.0) j.context))
-            (subst U e c.covers);
-      } in
-      subst (λ l. P l counters) (sym c.links_are) (subst (λ x. P [] x) (sym c.counters_are) base)
-
-  pub turn-running : (charged : ℕ) (j : Job) (t : Tree) (links counters : List ℕ) (upper : Option ℤ) → t ≡ plug j.context (Leaf j.watches (Running j.place)) → IsQuietBefore j.context → IsTurned charged t links counters upper → IsRunning charged j links counters upper
-  turn-running charged j t links counters upper e q k =
-      ⊎_elim (λ c. calm-running charged j t links counters upper e c)
-      (λ b.
-      let same : b.runs ≡ j = one-turn b.runs.context j.context b.runs.watches j.watches b.runs.place j.place b.quiet q (sym b.is_there ∙ e) in
-      let R : Job → Type 0 = λ x. IsRunning charged x links counters upper in
-      subst R same b.running) k.1
-
   module _ (accepted : IsAccepted image cert) (charged : ℕ) (context : Context) (watches : List Watch) (place : ℕ) (s : State) (phase : s.phase ≡ InTurns) (there : s.tree ≡ plug context (Leaf watches (Running place))) (quiet : IsQuietBefore context)
-      (sound : IsSound image s.tree) (run : IsRunning charged (job context watches place) s.links s.counters s.upper) where
+      (sound : IsSound image s.tree) (run : IsRunning image cert charged (job context watches place) s.links s.counters s.upper) where
     abbrev here : Tree
     here = plug context (Leaf watches (Running place))
 
@@ -138,7 +40,7 @@ module _ (image : Image) (cert : Cert) where
     me = middle context
 
     abbrev Now : Side → ℕ → Type 0
-    Now = OwesIn watches place s.links s.counters
+    Now = OwesIn image cert watches place s.links s.counters
 
     sound-here : IsSound image here
     sound-here = let S : Tree → Type 0 = IsSound image in subst S there sound
@@ -147,8 +49,8 @@ module _ (image : Image) (cert : Cert) where
     within = subst (λ k. k ≤ length a) (sym (old-is image run.kept.0 watches run.kept.1)) (old-within image run.kept.0 watches run.kept.1)
 
     -- the slot in the middle goes on
-    moved : (c : ℕ) (watches' : List Watch) (place' : ℕ) (links counters : List ℕ) (upper : Option ℤ) → upper ≡ upper_at image cert place' → ArePlain links → AreKept image watches' → Chain cert me (stack watches') 0 place' links counters →
-        Dom c Now (OwesIn watches' place' links counters) → IsTurned (charged + c) (plug context (Leaf watches' (Running place'))) links counters upper
+    moved : (c : ℕ) (watches' : List Watch) (place' : ℕ) (links counters : List ℕ) (upper : Option ℤ) → upper ≡ upper_at image cert place' → ArePlain image cert links → AreKept image watches' → Chain cert me (stack watches') 0 place' links counters →
+        Dom c Now (OwesIn image cert watches' place' links counters) → IsTurned image cert (charged + c) (plug context (Leaf watches' (Running place'))) links counters upper
     moved c watches' place' links counters upper u lp k ch d = (
       sound-leaf image context watches watches' (Running place) (Running place') sound-here,
       inr (record {
@@ -161,19 +63,19 @@ module _ (image : Image) (cert : Cert) where
           round = run.round;
           kept = k;
           chain = ch;
-          covers = under-dom charged c (CVal image cert context Now) (CVal image cert context (OwesIn watches' place' links counters)) (context-dom image cert c Now (OwesIn watches' place' links counters) d context) run.covers;
+          covers = under-dom image cert charged c (CVal image cert context Now) (CVal image cert context (OwesIn image cert watches' place' links counters)) (context-dom image cert c Now (OwesIn image cert watches' place' links counters) d context) run.covers;
         };
       }),
     )
 
     -- a word that keeps the line
     on : (c place' : ℕ) (upper : Option ℤ) → upper ≡ upper_at image cert place' → cert.line place' ≡ cert.line place → Views image cert (cert.line place) (λ view. Reach (seen cert view place) c (seen cert view place')) →
-        IsTurned (charged + c) (plug context (Leaf watches (Running place'))) s.links s.counters upper
+        IsTurned image cert (charged + c) (plug context (Leaf watches (Running place'))) s.links s.counters upper
     on c place' upper u line reach =
         moved c watches place' s.links s.counters upper u run.links_plain run.kept (rebuild-same cert me a 0 place place' s.links s.counters run.chain line)
         (on-dom cert me a image c (old watches) 0 place place' s.links s.counters within run.chain line reach)
 
-    branch-kept : (to : ℕ) (choices : List Bool) → IsFine image cert place (cert.line place) (Branch (Some to)) → IsTurnKept charged (branched image to context watches place s choices)
+    branch-kept : (to : ℕ) (choices : List Bool) → IsFine image cert place (cert.line place) (Branch (Some to)) → IsTurnKept image cert charged (branched image to context watches place s choices)
     branch-kept to [] f = tt
     branch-kept to (true ∷ choices) f = (phase, on (image.cost class.Taken) to None (sym f.1.1) f.1.0 f.3)
     branch-kept to (false ∷ choices) f = (phase, on (image.cost class.Untaken) (place + 1) None (sym f.0.1) f.0.0 f.2)
@@ -196,29 +98,29 @@ module _ (image : Image) (cert : Cert) where
 
     alone : cert.line place ≡ Thread me a [] → s.links ≡ [] → s.counters ≡ [] → Dom 0 Now Alone
     alone line l c =
-        let D : List ℕ → List ℕ → Type 0 = λ x y. Dom 0 (OwesIn watches place x y) Alone in
-        subst (λ x. D x s.counters) (sym l) (subst (λ y. D [] y) (sym c) (owes-leaf watches place me a line))
+        let D : List ℕ → List ℕ → Type 0 = λ x y. Dom 0 (OwesIn image cert watches place x y) Alone in
+        subst (λ x. D x s.counters) (sym l) (subst (λ y. D [] y) (sym c) (owes-leaf image cert watches place me a line))
 
     -- the slot in the middle, which is in no loop and no routine, goes on
     moved-calm : (P : ℕ → List ℕ → Type 0) (q : Calm P) (c : ℕ) (watches' : List Watch) (place' : ℕ) → AreKept image watches' → IsAt image cert place' (Thread me (stack watches') []) →
-        Dom c Alone (λ side n. cert.number side (old watches') place' ≡ Some n) → IsTurned (charged + c) (plug context (Leaf watches' (Running place'))) s.links s.counters None
+        Dom c Alone (λ side n. cert.number side (old watches') place' ≡ Some n) → IsTurned image cert (charged + c) (plug context (Leaf watches' (Running place'))) s.links s.counters None
     moved-calm P q c watches' place' k line d =
-        let T : List ℕ → List ℕ → Type 0 = λ x y. IsTurned (charged + c) (plug context (Leaf watches' (Running place'))) x y None in
+        let T : List ℕ → List ℕ → Type 0 = λ x y. IsTurned image cert (charged + c) (plug context (Leaf watches' (Running place'))) x y None in
         subst (λ x. T x s.counters) (sym q.links_are) (subst (λ y. T [] y) (sym q.counters_are)
         (moved c watches' place' [] [] None (sym line.1) tt k ([], line.0, refl)
-        (dom-after image cert c Now Alone (OwesIn watches' place' [] []) (alone q.line q.links_are q.counters_are)
+        (dom-after image cert c Now Alone (OwesIn image cert watches' place' [] []) (alone q.line q.links_are q.counters_are)
         (λ side n h.
-        let v = leaf-owes watches' place' me (stack watches') line.0 side n h in
+        let v = leaf-owes image cert watches' place' me (stack watches') line.0 side n h in
         let r = d side v.0 v.1 in
         (r.0, r.1, (let e = v.2 in let f = r.2 in omega (arith, e, f)))))))
 
     -- the tree changes otherwise
-    settled : (P : ℕ → List ℕ → Type 0) (q : Calm P) (c : ℕ) (t : Tree) → IsSound image t → IsRight image cert 0 t → Dom c (CVal image cert context Now) (Val image cert t) → IsTurned (charged + c) t s.links s.counters None
-    settled P q c t so r d = (so, inl (record { upper_is = refl; links_are = q.links_are; counters_are = q.counters_are; right = r; covers = under-dom charged c (CVal image cert context Now) (Val image cert t) d run.covers }))
+    settled : (P : ℕ → List ℕ → Type 0) (q : Calm P) (c : ℕ) (t : Tree) → IsSound image t → IsRight image cert 0 t → Dom c (CVal image cert context Now) (Val image cert t) → IsTurned image cert (charged + c) t s.links s.counters None
+    settled P q c t so r d = (so, inl (record { upper_is = refl; links_are = q.links_are; counters_are = q.counters_are; right = r; covers = under-dom image cert charged c (CVal image cert context Now) (Val image cert t) d run.covers }))
 
     -- the slot in the middle comes to another tree, and what is round it settles
     climbed : (P : ℕ → List ℕ → Type 0) (q : Calm P) (c : ℕ) (u : Tree) → ((i k : ℕ) → tally i k u ≤ tally i k (Leaf watches (Running place))) → IsRight image cert me u → Dom c Alone (Val image cert u) →
-        IsTurned (charged + c) (climb context u) s.links s.counters None
+        IsTurned image cert (charged + c) (climb context u) s.links s.counters None
     climbed P q c u less r d =
         let g = climbs image cert accepted context u run.round r in
         settled P q c (climb context u)
@@ -229,14 +131,14 @@ module _ (image : Image) (cert : Cert) where
         let y = context-dom image cert c Now (Val image cert u) (dom-after image cert c Now Alone (Val image cert u) (alone q.line q.links_are q.counters_are) d) context side x.0 x.1 in
         (y.0, y.1, (let e = x.2 in let f = y.2 in omega (arith, e, f))))
 
-    unless-kept : (b : Bool) (kind : TrapKind) (o : Outcome) → b ≡ false → IsTurnKept charged o → IsTurnKept charged (unless b kind o)
-    unless-kept b kind o e h = let K : Bool → Type 0 = λ x. IsTurnKept charged (unless x kind o) in subst K (sym e) h
+    unless-kept : (b : Bool) (kind : TrapKind) (o : Outcome) → b ≡ false → IsTurnKept image cert charged o → IsTurnKept image cert charged (unless b kind o)
+    unless-kept b kind o e h = let K : Bool → Type 0 = λ x. IsTurnKept image cert charged (unless x kind o) in subst K (sym e) h
 
     relieved-less : (r : Option (List Watch × ℕ)) (i k : ℕ) → tally i k (relieved_tree (Leaf watches (Pausing place)) r) ≤ tally i k (Leaf watches (Running place))
     relieved-less None i k = omega arith
     relieved-less (Some to) i k = omega arith
 
-    eot-kept : image.code place (upper_at image cert place) ≡ Some Eot → IsFine image cert place (cert.line place) Eot → IsTurnKept charged (effect image context watches place s Eot)
+    eot-kept : image.code place (upper_at image cert place) ≡ Some Eot → IsFine image cert place (cert.line place) Eot → IsTurnKept image cert charged (effect image context watches place s Eot)
     eot-kept word f =
         let P : ℕ → List ℕ → Type 0 = λ m b. (image.is_pause place m b ≡ true) × Levels image cert b (λ k. (side : Side) (r : ℕ) → Rests image cert b k side r → Pays (cert.number side k place) (image.cost class.Eot + r)) in
         let q = calm P f.1 in
@@ -250,7 +152,7 @@ module _ (image : Image) (cert : Cert) where
     empty [] e = refl
     empty (l ∷ ws) e = cc
 
-    end-kept : IsFine image cert place (cert.line place) End → IsTurnKept charged (effect image context watches place s End)
+    end-kept : IsFine image cert place (cert.line place) End → IsTurnKept image cert charged (effect image context watches place s End)
     end-kept f =
         let P : ℕ → List ℕ → Type 0 = λ m b. (b ≡ []) × Pays (cert.number ToEnd 0 place) (image.cost class.End) in
         let q = calm P f in
@@ -266,7 +168,7 @@ module _ (image : Image) (cert : Cert) where
               (p.0, e, (let z = h.1 in let y = p.2 in omega (arith, z, y)))),
         ))
 
-    abrt-kept : (j : ℕ) → IsFine image cert place (cert.line place) (Abrt j) → IsTurnKept charged (effect image context watches place s (Abrt j))
+    abrt-kept : (j : ℕ) → IsFine image cert place (cert.line place) (Abrt j) → IsTurnKept image cert charged (effect image context watches place s (Abrt j))
     abrt-kept j f =
         let P : ℕ → List ℕ → Type 0 = λ m b. (image.is_abort j ≡ true) × (length b < 8) × IsAt image cert (place + 1) (Thread m (b ++ j ∷ []) [])
         × Levels image cert b (λ k. (side : Side) → Reach (cert.number side k place) (image.cost class.Abrt) (cert.number side k (place + 1))) in
@@ -291,7 +193,7 @@ module _ (image : Image) (cert : Cert) where
     not-none [] outside j e = absurd (not-empty outside j e)
     not-none (l ∷ ws) outside j e = refl
 
-    leave-kept : IsFine image cert place (cert.line place) Leave → IsTurnKept charged (effect image context watches place s Leave)
+    leave-kept : IsFine image cert place (cert.line place) Leave → IsTurnKept image cert charged (effect image context watches place s Leave)
     leave-kept f =
         let P : ℕ → List ℕ → Type 0 = λ m b. (outside : List ℕ) × (j : ℕ) × (b ≡ outside ++ j ∷ []) × IsAt image cert (place + 1) (Thread m outside [])
         × Levels image cert b (λ k. (side : Side) → Reach (cert.number side k place) (image.cost class.Leave) (cert.number side (min k (length outside)) (place + 1))) in
@@ -318,7 +220,7 @@ module _ (image : Image) (cert : Cert) where
     three-false : (x y z : Bool) → x ≡ false → y ≡ false → z ≡ false → x || y || z ≡ false
     three-false x y z p q r = cc
 
-    fork-kept : (lo count : ℕ) → image.code place (upper_at image cert place) ≡ Some (Fork lo count) → IsFine image cert place (cert.line place) (Fork lo count) → IsTurnKept charged (effect image context watches place s (Fork lo count))
+    fork-kept : (lo count : ℕ) → image.code place (upper_at image cert place) ≡ Some (Fork lo count) → IsFine image cert place (cert.line place) (Fork lo count) → IsTurnKept image cert charged (effect image context watches place s (Fork lo count))
     fork-kept lo count read f =
         let P : ℕ → List ℕ → Type 0 = λ m b. (image.is_fork place m b ≡ true) × (m < lo) × (1 ≤ count) × (lo + count ≤ image.slots)
         × ((c : ℕ) → lo ≤ c → c < lo + count → IsAt image cert (image.start c) (Thread c [] []))
@@ -356,7 +258,7 @@ module _ (image : Image) (cert : Cert) where
               (y.0, y.1, (let e = x.2 in let z = y.2 in omega (arith, e, z)))),
         ))))
 
-    call-kept : (to : ℕ) → IsFine image cert place (cert.line place) (Call to) → IsTurnKept charged (effect image context watches place s (Call to))
+    call-kept : (to : ℕ) → IsFine image cert place (cert.line place) (Call to) → IsTurnKept image cert charged (effect image context watches place s (Call to))
     call-kept to f =
         let h = f.1 in
         let links = s.links in
@@ -381,7 +283,7 @@ module _ (image : Image) (cert : Cert) where
     is_routine (Routine h l) = true
     is_routine other = false
 
-    ret-kept : (links : List ℕ) → s.links ≡ links → Chain cert me a 0 place links s.counters → IsFine image cert place (cert.line place) Ret → IsTurnKept charged (returned image context watches s links)
+    ret-kept : (links : List ℕ) → s.links ≡ links → Chain cert me a 0 place links s.counters → IsFine image cert place (cert.line place) Ret → IsTurnKept image cert charged (returned image context watches s links)
     ret-kept [] e c f = absurd (false≢true (ap is_routine (sym c.1 ∙ f.1)))
     ret-kept (l ∷ links) e c f =
         let cs = s.counters in
@@ -389,8 +291,8 @@ module _ (image : Image) (cert : Cert) where
         let I : List ℕ → Type 0 = λ x. IsCounted cert x cs c.2 in
         let same : cs ≡ c.2 = subst I empty c.5 in
         let C : List ℕ → Type 0 = λ x. Chain cert me a c.0 l links x in
-        let D : List ℕ → Type 0 = λ x. Dom (image.cost class.Ret) (OwesIn watches place x cs) (OwesIn watches l links cs) in
-        let lp : ArePlain (l ∷ links) = subst ArePlain e run.links_plain in (
+        let D : List ℕ → Type 0 = λ x. Dom (image.cost class.Ret) (OwesIn image cert watches place x cs) (OwesIn image cert watches l links cs) in
+        let lp : ArePlain image cert (l ∷ links) = subst (ArePlain image cert) e run.links_plain in (
           phase,
           moved (image.cost class.Ret) watches l links cs None (sym lp.0) lp.1 run.kept (lowered cert me a c.0 l links cs (subst C (sym same) c.6))
               (subst D (sym e)
@@ -401,7 +303,7 @@ module _ (image : Image) (cert : Cert) where
               (v + (0 + n), (v, 0, n, cs, refl, t, h, refl), (let p = f.2 in omega (arith, p))))),
         )
 
-    loop-kept : (turns : ℕ) → IsFine image cert place (cert.line place) (Loop turns) → IsTurnKept charged (effect image context watches place s (Loop turns))
+    loop-kept : (turns : ℕ) → IsFine image cert place (cert.line place) (Loop turns) → IsTurnKept image cert charged (effect image context watches place s (Loop turns))
     loop-kept turns f =
         let links = s.links in
         let cs = s.counters in
@@ -452,11 +354,11 @@ module _ (image : Image) (cert : Cert) where
     view-fits : (side : Side) → Fits (viewed cert side (old watches) s.links) (cert.line place)
     view-fits side = fits cert me a side (old watches) 0 place s.links s.counters within run.chain
 
-    next-kept : (to : ℕ) (counters loops : List ℕ) → s.counters ≡ counters → own_loops ≡ loops → IsCounted cert loops counters rest → InnerIs image cert loops (NextInner to) → IsTurnKept charged (turned image to context watches place s counters)
+    next-kept : (to : ℕ) (counters loops : List ℕ) → s.counters ≡ counters → own_loops ≡ loops → IsCounted cert loops counters rest → InnerIs image cert loops (NextInner to) → IsTurnKept image cert charged (turned image to context watches place s counters)
     next-kept to counters [] ec el i f = absurd f
     next-kept to [] (b ∷ l) ec el i f = absurd i
     next-kept to (zero ∷ cs) (b ∷ l) ec el i f =
-        let D : List ℕ → Type 0 = λ x. Dom (image.cost class.Next) (OwesIn watches place s.links x) (OwesIn watches to s.links cs) in
+        let D : List ℕ → Type 0 = λ x. Dom (image.cost class.Next) (OwesIn image cert watches place s.links x) (OwesIn image cert watches to s.links cs) in
         let next = loops-next cert me a 0 place to s.links s.counters l run.chain f.3.0 in (
           phase,
           moved (image.cost class.Next) watches to s.links cs None (sym f.3.1) run.links_plain run.kept (rebuild cert me a 0 place to s.links s.counters cs l run.chain f.3.0 i.2)
@@ -475,7 +377,7 @@ module _ (image : Image) (cert : Cert) where
               ))),
         )
     next-kept to (suc k ∷ cs) (b ∷ l) ec el i f =
-        let D : List ℕ → Type 0 = λ x. Dom (image.cost class.Next) (OwesIn watches place s.links x) (OwesIn watches (place + 1) s.links (k ∷ cs)) in
+        let D : List ℕ → Type 0 = λ x. Dom (image.cost class.Next) (OwesIn image cert watches place s.links x) (OwesIn image cert watches (place + 1) s.links (k ∷ cs)) in
         let I : List ℕ → Type 0 = λ x. IsCounted cert x (k ∷ cs) rest in (
           phase,
           moved (image.cost class.Next) watches (place + 1) s.links (k ∷ cs) None (sym f.2.1) run.links_plain run.kept (recounted cert me a 0 place (place + 1) s.links s.counters (k ∷ cs) run.chain f.2.0 (subst I (sym el) (i.0, i.1, i.2)))
@@ -500,11 +402,11 @@ module _ (image : Image) (cert : Cert) where
     abbrev DropInner : ℕ → List ℕ → Type 0
     DropInner b l = IsAt image cert (place + 1) (with_loops (cert.line place) l) × Views image cert (cert.line place) (λ view. Reach (seen cert view place) (image.cost class.Drop) (seen cert view (place + 1)))
 
-    drop-kept : (counters loops : List ℕ) → s.counters ≡ counters → own_loops ≡ loops → IsCounted cert loops counters rest → InnerIs image cert loops DropInner → IsTurnKept charged (dropped image context watches place s counters)
+    drop-kept : (counters loops : List ℕ) → s.counters ≡ counters → own_loops ≡ loops → IsCounted cert loops counters rest → InnerIs image cert loops DropInner → IsTurnKept image cert charged (dropped image context watches place s counters)
     drop-kept counters [] ec el i f = absurd f
     drop-kept [] (b ∷ l) ec el i f = absurd i
     drop-kept (c ∷ cs) (b ∷ l) ec el i f =
-        let D : List ℕ → Type 0 = λ x. Dom (image.cost class.Drop) (OwesIn watches place s.links x) (OwesIn watches (place + 1) s.links cs) in
+        let D : List ℕ → Type 0 = λ x. Dom (image.cost class.Drop) (OwesIn image cert watches place s.links x) (OwesIn image cert watches (place + 1) s.links cs) in
         let next = loops-next cert me a 0 place (place + 1) s.links s.counters l run.chain f.0.0 in (
           phase,
           moved (image.cost class.Drop) watches (place + 1) s.links cs None (sym f.0.1) run.links_plain run.kept (rebuild cert me a 0 place (place + 1) s.links s.counters cs l run.chain f.0.0 i.2)
@@ -527,7 +429,7 @@ module _ (image : Image) (cert : Cert) where
     counted : IsCounted cert own_loops s.counters rest
     counted = chain-counted cert me a 0 place s.links s.counters run.chain
 
-    effect-kept : (w : Word) → image.code place (upper_at image cert place) ≡ Some w → IsFine image cert place (cert.line place) w → IsTurnKept charged (effect image context watches place s w)
+    effect-kept : (w : Word) → image.code place (upper_at image cert place) ≡ Some w → IsFine image cert place (cert.line place) w → IsTurnKept image cert charged (effect image context watches place s w)
     effect-kept (Does c) word f = (phase, on (image.cost c) (place + 1) None (sym f.0.1) f.0.0 f.1)
     effect-kept (Imm u) word f = (phase, on (image.cost class.Imm) (place + 1) (Some u) (sym f.1) f.0 f.2)
     effect-kept (Jump None) word f = absurd f
@@ -549,12 +451,12 @@ module _ (image : Image) (cert : Cert) where
     not-bare : IsBare (cert.line place) → ⊥
     not-bare = chain-there cert me a 0 place s.links s.counters run.chain
 
-    at-kept : (w : Option Word) → image.code place s.upper ≡ w → IsTurnKept charged (turn_at image context watches place s w)
+    at-kept : (w : Option Word) → image.code place s.upper ≡ w → IsTurnKept image cert charged (turn_at image context watches place s w)
     at-kept w e =
         let r = accepted.place place not-bare in
-        let K : Option Word → Type 0 = λ x. IsTurnKept charged (turn_at image context watches place s x) in
+        let K : Option Word → Type 0 = λ x. IsTurnKept image cert charged (turn_at image context watches place s x) in
         subst K (sym r.1 ∙ ap (image.code place) (sym run.upper_is) ∙ e) (effect-kept r.0 r.1 r.2)
 
-  pub turn-kept : IsAccepted image cert → (charged : ℕ) (s : State) → s.phase ≡ InTurns → IsTurned charged s.tree s.links s.counters s.upper → (t : Turn image s.tree) → IsTurnKept charged (turn_at image t.context t.watches t.place s (image.code t.place s.upper))
+  pub turn-kept : IsAccepted image cert → (charged : ℕ) (s : State) → s.phase ≡ InTurns → IsTurned image cert charged s.tree s.links s.counters s.upper → (t : Turn image s.tree) → IsTurnKept image cert charged (turn_at image t.context t.watches t.place s (image.code t.place s.upper))
   turn-kept accepted charged s phase k t =
-      at-kept accepted charged t.context t.watches t.place s phase t.is_there t.quiet k.0 (turn-running charged (job t.context t.watches t.place) s.tree s.links s.counters s.upper t.is_there t.quiet k) (image.code t.place s.upper) refl
+      at-kept accepted charged t.context t.watches t.place s phase t.is_there t.quiet k.0 (turn-running image cert charged (job t.context t.watches t.place) s.tree s.links s.counters s.upper t.is_there t.quiet k) (image.code t.place s.upper) refl

@@ -1,11 +1,13 @@
--- The written conditions are those of which soundness is proved.
+-- Conditions by sums give the conditions as relations.
 use Rattle.std.proofs.Common.{◌≡◌, ◌≤◌, ◌+◌, ℕ, zero, suc, if◌then◌else◌, nat_le, List, [], ◌∷◌, Option, Some, None, refl, sym, subst, ⊎_elim, arith, length}
 use Rattle.std.proofs.lemmas.Bool.Decides.{nat_tests}
 use Rattle.std.proofs.lemmas.Option.{none-some, same_Some}
 use Rattle.tk_bound.specs.declared.word.Word.{Word}
 use Rattle.tk_bound.specs.declared.word.Word.TheVariants.{Does, Imm, Jump, Branch, Eot, Fork, End, Abrt, Leave, Call, Ret, Loop, Next, Drop, Cend}
 use Rattle.tk_bound.proofs.Inner.{Image}
-use Rattle.tk_bound.specs.Sums.{Side, ToPause, ToEnd, plus, greater, or_zero, and_more, all_ends, most, most_paused, resumed_ends, resumed_most, resumed_paused}
+use Rattle.tk_bound.specs.declared.view.Side.{Side}
+use Rattle.tk_bound.specs.declared.view.Side.TheVariants.{ToPause, ToEnd}
+use Rattle.tk_bound.specs.Sums.{plus, greater, or_zero, and_more, all_ends, most, most_paused, resumed_ends, resumed_most, resumed_paused}
 use Rattle.tk_bound.proofs.Conditions.{Cert, Line, Bare, Thread, Routine, Cond, Pays, ThreadIs, both_sides, Handled, Rests, After, Sum, Starts, Ends, Over, With, both_ends, Resumes, Resumed, Tested, IsFine, IsPauseFine, IsForkFine, IsAccepted}
 use Rattle.tk_bound.proofs.BySums.{Asks, begins, EachWeak, EachStrong, conditions, PausesPay, ForksPay, IsFineWritten, IsPauseWritten, ForkResumes, HasResumed, IsForkWritten, IsAcceptedWritten}
 use Rattle.mb_isa.specs.declared.Class.TheVariants as class

@@ -8,7 +8,8 @@ use Rattle.mb_pfu.specs.Rows.{answered, any_due, or_else}
 use Rattle.tk_bound.proofs.Slots.{Judged, Cut, Kept, behind_one, judged, judged_tree, first_cond, next_cond, next_cond_among, if_some, test_answered, test_answered_among}
 use Rattle.tk_bound.specs.declared.word.Word.TheVariants.{Eot, Fork}
 use Rattle.tk_bound.proofs.Inner.{Image, stack, IsListed}
-use Rattle.tk_bound.specs.Sums.{Side, ToEnd}
+use Rattle.tk_bound.specs.declared.view.Side.{Side}
+use Rattle.tk_bound.specs.declared.view.Side.TheVariants.{ToEnd}
 use Rattle.tk_bound.proofs.Conditions.{Cert, Thread, both_sides, After, IsPlain, IsAt, AreAborts, IsAccepted}
 use Rattle.tk_bound.proofs.Values.{old, Dom, Val, GVal}
 use Rattle.tk_bound.proofs.Rights.{AreOld, old-is, IsRight, AreRight}

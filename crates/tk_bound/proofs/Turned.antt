@@ -42,7 +42,8 @@ use Rattle.tk_bound.specs.declared.word.Word.TheVariants.{Jump, Branch, Fork, Eo
 use Rattle.tk_bound.specs.Words.{word_of, goal_of, instr_in, read_instr, read}
 use Rattle.tk_bound.specs.Kinds.{start_of, abort_at}
 use Rattle.tk_bound.proofs.Firsts.{job}
-use Rattle.tk_bound.proofs.Steps.{IsTurned, IsTurnKept, turn-running, turn-kept}
+use Rattle.tk_bound.proofs.Running.{IsTurned, IsTurnKept, turn-running}
+use Rattle.tk_bound.proofs.Steps.{turn-kept}
 use Rattle.tk_bound.proofs.Sounds.{sound-leaf}
 use Rattle.tk_bound.proofs.Slots.{middle, without_last}
 use Rattle.tk_bound.proofs.Carried.{reverse-last}

@@ -4,7 +4,8 @@ use Rattle.mb_pfu.specs.declared.parts.Watch.{Watch}
 use Rattle.mb_pfu.specs.Tree.{Running, Pausing, Finished, Tree, Group, Leaf, Waits, no_more, member, append_group}
 use Rattle.mb_pfu.specs.Contexts.{filled, Frame, Context, plug}
 use Rattle.tk_bound.proofs.Inner.{Image, stack}
-use Rattle.tk_bound.specs.Sums.{Side, ToPause, ToEnd}
+use Rattle.tk_bound.specs.declared.view.Side.{Side}
+use Rattle.tk_bound.specs.declared.view.Side.TheVariants.{ToPause, ToEnd}
 use Rattle.tk_bound.proofs.Conditions.{Cert, both_sides, After}
 
 -- how many entries from the outermost are old

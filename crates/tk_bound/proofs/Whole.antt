@@ -11,14 +11,15 @@ use Rattle.tk_bound.specs.declared.word.Word.{Word}
 use Rattle.tk_bound.specs.declared.word.Word.TheVariants.{Does, Imm, Jump, Branch, Eot, Fork, End, Abrt, Leave, Call, Ret, Loop, Next, Drop, Cend}
 use Rattle.tk_bound.proofs.Inner.{Image, State, Outcome, Goes, Traps, Stops, Phase, Testing, InTest, InTurns, stack, IsSound, test_next, test_at, test_effect, chosen, answer, turn_at, StepIn, Step, Path, still, onward, Guided, still_guided, guided, IsLoose, IsConfiguration, first, loose, begun_free}
 use Rattle.tk_bound.proofs.Conditions.{upper_at, Cert, Line, Thread, Cond, IsBare, Reach, both_sides, loops_of, Ends, Over, With, Resumes, IsFine, IsAccepted, BoundsFreeTicks, BoundsGuided}
-use Rattle.tk_bound.specs.Sums.{Side}
-use Rattle.tk_bound.specs.Acceptance.{Value}
+use Rattle.tk_bound.specs.declared.view.Side.{Side}
+use Rattle.tk_bound.specs.declared.view.View.TheVariants.{Value}
 use Rattle.tk_bound.proofs.Values.{old, Val, Around, FVal, CVal}
 use Rattle.tk_bound.proofs.Rights.{old-is, old-within, AreRight, IsFrameRight, IsContextRight}
 use Rattle.tk_bound.proofs.Settles.{thread-of}
 use Rattle.tk_bound.proofs.Chains.{IsCounted, Turns, Owes, Chain}
 use Rattle.tk_bound.proofs.Sounds.{sound-less}
-use Rattle.tk_bound.proofs.Steps.{Under, OwesIn, IsTurned, IsTurnKept, turn-kept}
+use Rattle.tk_bound.proofs.Running.{Under, OwesIn, IsTurned, IsTurnKept}
+use Rattle.tk_bound.proofs.Steps.{turn-kept}
 use Rattle.tk_bound.proofs.Tests.{TVal, IsTesting, answers, fork-next, wakes-right, wakes-values}
 use Rattle.tk_bound.proofs.Rests.{turned-rests}
 use Rattle.tk_bound.proofs.Begins.{begun-testing, begun-bounded, testing-some, right-some, right-some-among, after-some, next-cond-line}

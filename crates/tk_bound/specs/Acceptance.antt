@@ -1,4 +1,6 @@
 -- The conditions of acceptance A3 to A7, and what all conditions ask: docs/bounds.md, "Acceptance".
+use Rattle.tk_bound.specs.declared.view.View.{View}
+use Rattle.tk_bound.specs.declared.view.View.TheVariants.{On, Value}
 use Rattle.std.specs.Prelude.{ℕ, zero, suc, ◌||◌, ◌+◌, ◌-◌, ◌*◌, min, Bool, if◌then◌else◌, List, [], ◌∷◌, ◌++◌, length, slice_get, Option, Some, None}
 use Rattle.std.specs.Option.{is_some}
 use Rattle.std.specs.List.{list_any, flat_map, range_with_len}
@@ -13,7 +15,9 @@ use Rattle.tk_cert.specs.declared.cert.Line.{Line}
 use Rattle.tk_cert.specs.declared.cert.Line.TheVariants.{Bare, Thread, Routine, Cond}
 use Rattle.tk_cert.specs.declared.cert.CertParts.{CertParts}
 use Rattle.tk_cert.specs.Demands.{Demand, at_least}
-use Rattle.tk_bound.specs.Sums.{Side, ToPause, ToEnd, plus, or_zero, lowered, all_ends, most_paused, resumed_ends, resumed_paused, greatest}
+use Rattle.tk_bound.specs.declared.view.Side.{Side}
+use Rattle.tk_bound.specs.declared.view.Side.TheVariants.{ToPause, ToEnd}
+use Rattle.tk_bound.specs.Sums.{plus, or_zero, lowered, all_ends, most_paused, resumed_ends, resumed_paused, greatest}
 use Rattle.tk_bound.specs.declared.word.Word.{Word}
 use Rattle.tk_bound.specs.declared.word.Word.TheVariants.{Does, Imm, Jump, Branch, Fork, Eot, End, Abrt, Leave, Call, Ret, Loop, Next, Drop, Cend}
 use Rattle.tk_bound.specs.Kinds.{line_at, loops_of, word_at, places_of, start_of, abort_at, points_at}
@@ -24,11 +28,6 @@ abbrev pub on_side : Side → Option (Option ℕ × Option ℕ) → Option ℕ
 on_side side None = None
 on_side ToPause (Some numbers) = numbers.0
 on_side ToEnd (Some numbers) = numbers.1
-
--- Which of a line's numbers is meant: of a thread's that of a side at a level, of a routine's or a condition's its only one.
-pub data View : Type 0 where
-  On : (side : Side) (level : ℕ) → View
-  Value : View
 
 abbrev pub level_of : View → ℕ
 level_of (On side level) = level

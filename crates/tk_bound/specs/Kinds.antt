@@ -48,11 +48,15 @@ is_inside (Cond value) loops other = is_cond other
 abbrev pub same_kind : Line → Line → Bool
 same_kind line other = is_inside line (loops_of line) other
 
+-- the imm of an `imm` word
+abbrev pub imm_in : Option Instr → Option ℤ
+imm_in (Some (instr.Imm imm)) = Some imm
+imm_in other = None
+
 -- the upper half behind a line and its instruction
 abbrev pub upper_behind : Line → Option Instr → Option ℤ
 upper_behind Bare i = None
-upper_behind line (Some (instr.Imm imm)) = Some imm
-upper_behind line other = None
+upper_behind line i = imm_in i
 
 -- the upper half with which the word of a place is read: that of an `imm` word before it whose line says something
 abbrev pub upper_at : Parts → List Line → ℕ → Option ℤ

@@ -1,10 +1,7 @@
 -- Sums over the children of a fork of numbers that may be none: docs/bounds.md, "Forks".
+use Rattle.tk_bound.specs.declared.view.Side.{Side}
+use Rattle.tk_bound.specs.declared.view.Side.TheVariants.{ToPause, ToEnd}
 use Rattle.std.specs.Prelude.{ℕ, zero, suc, ◌+◌, ◌-◌, nat_le, if◌then◌else◌, List, [], ◌∷◌, Option, Some, None}
-
--- A number of cycles is up to a pause or up to the end.
-pub data Side : Type 0 where
-  ToPause : Side
-  ToEnd : Side
 
 -- a sum, where both numbers are there
 abbrev pub plus : Option ℕ → Option ℕ → Option ℕ

@@ -5,11 +5,13 @@
 //! same in words. The functions below do nothing: their contracts are the theorem.
 #![tactic(auto)]
 
+mod view;
 mod word;
 
 ghost use Rattle.tk_bound.specs.Bounded.{FreeTicksAreBounded, RunsAreBounded};
 ghost use Rattle.tk_bound.specs.Walks.{ReachedIsWorst};
 
+pub use view::{Side, View};
 pub use word::Word;
 
 /// Where all demands hold of an image, a certificate and a cost table, whoever made them, no free tick traps, and none is

@@ -25,7 +25,10 @@ use Rattle.tk_cert.specs.Plain.{IsPlainCert}
 use Rattle.tk_cert.specs.Shapes.{IsCert}
 use Rattle.tk_cert.specs.Lines.{word_of, start_of}
 use Rattle.tk_cert.specs.Conditions.{IsAccepted}
-use Rattle.tk_check.specs.Bounded.{IsWithin, BoundsRuns}
+use Rattle.mb_core.proofs.PlainTicks.{told, plain_runs}
+use Rattle.mb_step.specs.Run as runs
+use Rattle.tk_check.specs.Bounded as bounded
+use Rattle.tk_check.specs.Bounded.{BoundsRuns}
 use Rattle.tk_check.proofs.SoundLists.{by_false}
 use Rattle.tk_check.proofs.SoundPlaces.{Accepts, Standing, stands, unbarred}
 use Rattle.tk_check.proofs.SoundSteps.{IsCovered, IsSlotKept, IsKept, IsStepKept, effect-kept}
@@ -204,6 +207,16 @@ tick-kept image cert costs most s values a above b =
     (outcome-kept image cert costs (turns (suc most) image costs most base (begun image values s)) a
     (turns-kept (suc most) image cert costs most base (begun image values s) a above (omega arith) (begun-kept image cert costs values s a b)))
 
+-- a tick of the plain machine is within the bound
+abbrev IsWithin : ℕ → Outcome → Type 0
+IsWithin bound (Ends cycles outputs state) = cycles ≤ bound
+IsWithin bound (Trapped kind at charged) = (kind ≡ BadAddress) × (charged ≤ bound)
+
+told-within : (bound : ℕ) (os : List runs.Ticked) → AllByRecursion (IsWithin bound) (map told os) → AllByRecursion (bounded.IsWithin bound) os
+told-within bound [] h = tt
+told-within bound (runs.Ends cycles outputs state ∷ os) h = (h.0, told-within bound os h.1)
+told-within bound (runs.Trapped kind at charged ∷ os) h = (h.0, told-within bound os h.1)
+
 after_tick-within : (image : Parts) (cert : CertParts) (go : State → List Outcome) → ((s : State) → IsBetween image s → AllByRecursion (IsWithin cert.bound) (go s)) →
     (o : Outcome) → IsOutcomeKept image cert o → AllByRecursion (IsWithin cert.bound) (after_tick go o)
 after_tick-within image cert go all (Ends cycles outputs s) h = (h.0, all s (h.1))
@@ -221,4 +234,5 @@ pub bounds_runs : (image : Parts) (cert : CertParts) (costs : List ℕ) → IsIm
     BoundsRuns image costs cert.bound
 bounds_runs image cert costs image_is image_plain cert_is cert_plain priced accepted most rows above =
     let a : Accepts image cert costs = record { image_is = image_is; image_plain = image_plain; cert_is = cert_is; cert_plain = cert_plain; priced = priced; accepted = accepted } in
-    ticks-within image cert costs most (loaded image) rows a above (loaded-between image cert costs a)
+    told-within cert.bound (runs.run_of image costs most rows)
+    (subst (AllByRecursion (IsWithin cert.bound)) (plain_runs image costs most rows image_plain) (ticks-within image cert costs most (loaded image) rows a above (loaded-between image cert costs a)))

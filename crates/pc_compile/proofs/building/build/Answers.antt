@@ -4,6 +4,7 @@ use Rattle.pt_image.specs.Ranges.{IsImage}
 use Rattle.mb_core.specs.Plain.{IsPlain}
 use Rattle.pc_compile.specs.Faithful.{IsFaithful}
 use Rattle.pc_compile.proofs.Images.{image_in_range, image_is_plain}
+use Rattle.pc_compile.proofs.Plainly.{wholly}
 use Rattle.pc_compile.proofs.Ticks.{compiled_is_faithful}
 use Rattle.pc_compile.proofs.building.build.Goals as goal
 
@@ -21,4 +22,4 @@ pub returns-clause-faithful : goal.returns-clause-faithful
 returns-clause-faithful c =
     let e = c.in_ok-parts.ensures in
     let P : Parts → Type 0 = IsFaithful c.args.program.now in
-    subst P (sym (c.of.ensures ∙ e.parts)) (compiled_is_faithful c.args.program.now e.small e.starts)
+    subst P (sym (c.of.ensures ∙ e.parts)) (wholly c.args.program.now _ (image_is_plain c.args.program.now e.small) (compiled_is_faithful c.args.program.now e.small e.starts))

@@ -1,0 +1,9 @@
+//! Flow: what a program does in steps over temporaries, in pieces that pause, branch, turn, call, start threads and abort.
+//!
+//! The definition is `specs/Flow.antt`: a node starts and goes on as a statement does, and `run_of` gives the outputs of a
+//! run. `specs/Residuals.antt` says what may be left of a node. The functions are laws of it.
+#![tactic(auto)]
+
+mod laws;
+
+pub use laws::{a_node_leaves_its_residuals, a_residual_stays_one};

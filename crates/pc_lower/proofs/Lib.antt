@@ -1,0 +1,9 @@
+pub mod Values
+pub mod Moves
+pub mod Ends
+pub mod Statements
+pub mod Going
+pub mod Whole
+pub mod Temporaries
+pub mod Words
+pub mod Listing

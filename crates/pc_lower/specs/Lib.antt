@@ -1,0 +1,6 @@
+pub mod Aborts
+pub mod Lowered
+pub mod Sound
+pub mod Laws
+pub mod Order
+pub mod Counts

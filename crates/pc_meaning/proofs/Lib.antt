@@ -13,3 +13,4 @@ pub mod Calling
 pub mod Choosing
 pub mod Going
 pub mod Ticks
+pub mod SmallRuns

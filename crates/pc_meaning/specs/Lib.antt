@@ -10,3 +10,4 @@ pub mod Lefts
 pub mod Moments
 pub mod Meaning
 pub mod Standing
+pub mod SmallPrograms

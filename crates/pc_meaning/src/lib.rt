@@ -21,8 +21,9 @@ mod values;
 mod writes;
 
 pub use laws::{
-    a_function_does_its_body, a_routine_never_pauses, a_tree_finishes_alike, a_tree_pauses_alike,
-    more_functions_change_nothing, what_cannot_finish_pauses,
+    a_function_does_its_body, a_routine_never_pauses, a_small_program_means_the_same,
+    a_tree_finishes_alike, a_tree_pauses_alike, more_functions_change_nothing,
+    what_cannot_finish_pauses,
 };
 pub use places::Room;
 pub use run::{inputs, meaning, outputs, starts};

@@ -1,5 +1,5 @@
 -- On a plain image the machine's tick is the plain tick.
-use Rattle.std.proofs.Common.{◌≡◌, ◌≤◌, ℕ, zero, suc, ◌+◌, ◌-◌, ◌/◌, ◌==◌, ℤ, pos, nat_lt, not, Bool, true, false, if◌then◌else◌, List, [], ◌∷◌, map, length, slice_get, slice_index_or, Option, Some, None, refl, sym, ap, subst, ◌∙◌, arith}
+use Rattle.std.proofs.Common.{◌≡◌, ◌≤◌, ℕ, zero, suc, ◌+◌, ◌-◌, ◌/◌, ◌==◌, ℤ, nat_lt, Bool, true, false, if◌then◌else◌, List, [], ◌∷◌, map, length, slice_get, slice_index_or, Option, Some, None, refl, sym, ap, subst, ◌∙◌, arith}
 use Rattle.std.specs.List.{AllByRecursion, list_any}
 use Rattle.std.specs.Int.{w32, cast_unsigned}
 use Rattle.pt_base.specs.declared.BinOp.TheVariants as op
@@ -25,7 +25,7 @@ use Rattle.mb_step.specs.Control.{Control, Turn, tests_on}
 use Rattle.mb_step.specs.Words.{Plan, Refuse, is_barred, rests, jump, goes_to, plan_of, plan_decoded, plan_word}
 use Rattle.mb_step.specs.Step.{Stepped, Moves, worked, stepped, samples_on}
 use Rattle.mb_step.specs.Tick.{Outcome, Ends, Trapped, Open, base_of, begun, after_step, run, tick}
-use Rattle.mb_step.specs.Cells.{Cells, loads, stores, with_register, word_at, with_word, register, value_of, value_with, machine, outputs_of}
+use Rattle.mb_step.specs.Cells.{Cells, loads, stores, with_register, word_at, with_word, register, value_of, value_with, machine}
 use Rattle.mb_step.specs.Run as runs
 use Rattle.mb_step.specs.Run.{MachineState, loaded_cells, after_tick, ticks_from, run_of, seen}
 use Rattle.mb_core.specs.State as plain
@@ -297,6 +297,7 @@ all-there P (y ∷ ys) zero x h e = subst P (some-same e) h.0
     some-of : Option ℕ → ℕ
     some-of None = 0
     some-of (Some n) = n
+
     some-same : {m n : ℕ} → Some m ≡ Some n → m ≡ n
     some-same q = ap some-of q
 all-there P (y ∷ ys) (suc i) x h e = all-there P ys i x h.1 e

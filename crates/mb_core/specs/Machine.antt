@@ -3,6 +3,11 @@ use Rattle.std.specs.Prelude.{◌≡◌, ℕ, ℤ, List, Option, Some, None, Res
 use Rattle.pt_image.specs.declared.Parts.{Parts}
 use Rattle.mb_step.specs.Run.{MachineState, Ticked, Ends, Trapped, loaded, tick_from}
 use Rattle.mb_core.specs.declared.parts.Trap.{Trap}
+use Rattle.mb_core.specs.Going.{CoreState}
+
+-- what is seen of the machine's core between two ticks
+abbrev pub state_in : CoreState → MachineState
+state_in k = record { unit = k.unit; cells = k.cells }
 
 -- an image with its costs, what the machine has come to, and the trap that has stopped it
 pub record Whole : Type 0 where

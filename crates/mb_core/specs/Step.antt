@@ -1,5 +1,5 @@
 -- One step of the slot of a plain image, with its charge and its traps in their order.
-use Rattle.std.specs.Prelude.{ℕ, ℤ, nat_lt, not, Bool, false, if◌then◌else◌, List, slice_get, Option, Some, None}
+use Rattle.std.specs.Prelude.{ℕ, ℤ, nat_lt, Bool, false, if◌then◌else◌, List, slice_get, Option, Some, None}
 use Rattle.mb_isa.specs.declared.Instr.{Instr}
 use Rattle.mb_isa.specs.Candidates.{decoded}
 use Rattle.mb_isa.specs.Classes.{class_of}

@@ -1,5 +1,5 @@
 -- A tick of a plain image.
-use Rattle.std.specs.Prelude.{ℕ, ℤ, suc, zero, ◌+◌, ◌-◌, ◌*◌, ◌^◌, ◌<◌, nat_lt, if◌then◌else◌, List, [], ◌∷◌, map, length, slice_set, Option, Some, None}
+use Rattle.std.specs.Prelude.{ℕ, ℤ, suc, zero, ◌+◌, ◌-◌, ◌*◌, ◌^◌, ◌<◌, nat_lt, if◌then◌else◌, List, [], ◌∷◌, map, length, Option, Some, None}
 use Rattle.mb_isa.specs.declared.Class.TheVariants as class
 use Rattle.mb_isa.specs.Costs.{cost_of}
 use Rattle.mb_pfu.specs.declared.Slot.{Slot}

@@ -1,5 +1,5 @@
 -- What each word does in a plain image, which has one slot, no aborts and no forks.
-use Rattle.std.specs.Prelude.{ℕ, ℤ, pos, ◌+◌, ◌*◌, ◌/◌, ◌%◌, ◌^◌, ◌+ℤ◌, ◌*ℤ◌, ◌==◌, nat_lt, ◌&&◌, Bool, if◌then◌else◌, List, length, Option, Some, None}
+use Rattle.std.specs.Prelude.{ℕ, ℤ, ◌+◌, ◌/◌, ◌==◌, ◌&&◌, Bool, if◌then◌else◌, List, length, Option, Some}
 use Rattle.std.specs.List.{list_any}
 use Rattle.std.specs.Int.{w32, cast_unsigned}
 use Rattle.pt_base.specs.declared.BinOp.TheVariants as op

@@ -1,24 +1,16 @@
-ghost use Rattle.std.specs.Prelude.{◌≡◌, ◌≤◌, ◌<◌, ◌+◌, ◌^◌, ℕ, ℤ, List, Option, IsTrue, is_some, IfSome, Some, None, Ok, length, pos, replicate, slice_get};
-ghost use Rattle.mb_pfu.specs.Rows.{is_ready};
+ghost use Rattle.std.specs.Prelude.{◌≡◌, ◌≤◌, ◌<◌, ◌+◌, ◌^◌, ℕ, Option, IsTrue, is_some, Some, None, Ok, length};
 ghost use Rattle.mb_pfu.specs.Tree.{slot_of, next_test};
 ghost use Rattle.mb_isa.specs.declared.Instr.TheVariants as words;
-ghost use Rattle.mb_isa.specs.Costs.{cost_of};
-ghost use Rattle.mb_step.specs.Control.{Turn, goes, wakes, answered};
-ghost use Rattle.mb_step.specs.Words.{Work, Branch, plan_of, plan_word, branched};
-ghost use Rattle.mb_step.specs.Step.{stepped, led};
+ghost use Rattle.mb_step.specs.Control.{wakes, answered};
 ghost use Rattle.mb_step.specs.Cells.{machine, word_at};
 ghost use Rattle.mb_step.specs.Tick.{begun};
-ghost use Rattle.mb_core.specs.Going.{plan_found, who_of, went, came, targeted, IsStillReady, Keeps};
+ghost use Rattle.mb_core.specs.Going.{core_of, work_at, branch_at, branched_at, found_at, plan_there};
+ghost use Rattle.mb_core.specs.Going.{IsStep, IsWord, IsLed, IsTarget, IsTurn, Keeps};
 
-use crate::parts::{To, Went};
 use crate::loading::Loaded;
-use crate::store::{Store, sample};
-use crate::unit_words::{
-    abrt, call, drop_word, end, eot, fork_word, leave_word, loop_word, next, ret,
-};
-use mb_isa::{
-    Class, Costs, Instr, Reg, branch_place, class, immediate, takes_upper, turns,
-};
+use crate::parts::{To, Went};
+use mb_cells::{Store, sample};
+use mb_isa::{Class, Costs, Instr, Reg, branch_place, class, immediate, takes_upper};
 use mb_pfu::{Slot, TrapKind, Unit};
 use std::marker::Model;
 
@@ -26,8 +18,8 @@ use std::marker::Model;
 #[derive(Drop)]
 pub struct Core {
     store: Store,
-    unit: Unit,
-    upper: Option<i16>,
+    pub(crate) unit: Unit,
+    pub(crate) upper: Option<i16>,
 }
 
 impl Model for Core {
@@ -46,7 +38,7 @@ impl Model for Core {
 impl Core {
     /// The loaded state: all registers are 0, and no upper half stands.
     pub fn of(memory: Vec<i32>, unit: Unit) -> Core
-        ensures { result ≡ record { cells = record { registers = replicate 32 (pos 0); memory = memory.items }; unit = unit; upper = None } }
+        ensures { result ≡ core_of memory.items unit }
     {
         Core {
             store: Store::of(memory),
@@ -65,8 +57,8 @@ impl Core {
         i: Instr,
     ) -> Result<Went, TrapKind>
         requires low { place < 2 ^ 20 }
-        requires ready { IfSome slot (λ s. IsTrue (is_ready (slot_of s self.old.unit.tree))) }
-        ensures step { (values : List ℤ) → stepped (machine loaded.now values) costs.now self.old.cells (Work i self.old.upper (goes (who_of slot) (place + 1) self.old.unit)) ≡ went (machine loaded.now values) slot result self.new }
+        requires ready { IsTurn slot self.old.unit }
+        ensures step { IsStep loaded.now costs.now slot (work_at slot place self.old i) self.old result self.new }
         ensures kept { Keeps slot self.old.unit result self.new.unit }
     {
         let charge = costs.cost(class(&i, false));
@@ -83,9 +75,13 @@ impl Core {
     // The place to which a branch leads, if it is one of the code.
     fn target(&self, loaded: &Loaded, place: u32, imm: i16) -> Option<u32>
         requires low { place < 2 ^ 20 }
-        ensures { (slot : Option ℕ) → branched loaded.now (who_of slot) place self.now.upper self.now.unit imm ≡ targeted slot result self.now.unit }
+        ensures { IsTarget loaded.now place self.now imm result }
     {
-        branch_place(loaded.image().code().len(), place, immediate(self.upper, imm))
+        branch_place(
+            loaded.image().code().len(),
+            place,
+            immediate(self.upper, imm),
+        )
     }
 
     // It goes on at the next word.
@@ -111,8 +107,8 @@ impl Core {
         imm: i16,
     ) -> Result<Went, TrapKind>
         requires low { place < 2 ^ 20 }
-        requires ready { IfSome slot (λ s. IsTrue (is_ready (slot_of s self.old.unit.tree))) }
-        ensures step { (values : List ℤ) → led (machine loaded.now values) costs.now (branched loaded.now (who_of slot) place self.old.upper self.old.unit imm) self.old.cells ≡ went (machine loaded.now values) slot result self.new }
+        requires ready { IsTurn slot self.old.unit }
+        ensures step { IsLed loaded.now costs.now slot (branched_at loaded.now slot place self.old imm) self.old result self.new }
         ensures kept { Keeps slot self.old.unit result self.new.unit }
     {
         match self.target(loaded, place, imm) {
@@ -137,8 +133,8 @@ impl Core {
         imm: i16,
     ) -> Result<Went, TrapKind>
         requires low { place < 2 ^ 20 }
-        requires ready { IfSome slot (λ s. IsTrue (is_ready (slot_of s self.old.unit.tree))) }
-        ensures step { (values : List ℤ) → stepped (machine loaded.now values) costs.now self.old.cells (plan_of loaded.now (who_of slot) place self.old.upper self.old.unit (words.Bri imm)) ≡ went (machine loaded.now values) slot result self.new }
+        requires ready { IsTurn slot self.old.unit }
+        ensures step { IsWord loaded.now costs.now slot place (words.Bri imm) self.old result self.new }
         ensures kept { Keeps slot self.old.unit result self.new.unit }
     {
         match self.target(loaded, place, imm) {
@@ -164,8 +160,8 @@ impl Core {
         imm: i16,
     ) -> Result<Went, TrapKind>
         requires low { place < 2 ^ 20 }
-        requires ready { IfSome slot (λ s. IsTrue (is_ready (slot_of s self.old.unit.tree))) }
-        ensures step { (values : List ℤ) → stepped (machine loaded.now values) costs.now self.old.cells (Branch i (branched loaded.now (who_of slot) place self.old.upper self.old.unit imm) (goes (who_of slot) (place + 1) self.old.unit)) ≡ went (machine loaded.now values) slot result self.new }
+        requires ready { IsTurn slot self.old.unit }
+        ensures step { IsStep loaded.now costs.now slot (branch_at loaded.now slot place self.old i imm) self.old result self.new }
         ensures kept { Keeps slot self.old.unit result self.new.unit }
     {
         if self.store.is_taken(i) {
@@ -184,8 +180,8 @@ impl Core {
         imm: i16,
     ) -> Result<Went, TrapKind>
         requires low { place < 2 ^ 20 }
-        requires ready { IfSome slot (λ s. IsTrue (is_ready (slot_of s self.old.unit.tree))) }
-        ensures step { (values : List ℤ) → stepped (machine loaded.now values) costs.now self.old.cells (plan_of loaded.now (who_of slot) place self.old.upper self.old.unit (words.Imm imm)) ≡ went (machine loaded.now values) slot result self.new }
+        requires ready { IsTurn slot self.old.unit }
+        ensures step { IsWord loaded.now costs.now slot place (words.Imm imm) self.old result self.new }
         ensures kept { Keeps slot self.old.unit result self.new.unit }
     {
         self.pass(costs.cost(Class::Imm), place, Some(imm))
@@ -200,8 +196,8 @@ impl Core {
         place: u32,
         ra: Reg,
     ) -> Result<Went, TrapKind>
-        requires ready { IfSome slot (λ s. IsTrue (is_ready (slot_of s self.old.unit.tree))) }
-        ensures step { (values : List ℤ) → stepped (machine loaded.now values) costs.now self.old.cells (plan_of loaded.now (who_of slot) place self.old.upper self.old.unit (words.Cend ra)) ≡ went (machine loaded.now values) slot result self.new }
+        requires ready { IsTurn slot self.old.unit }
+        ensures step { IsWord loaded.now costs.now slot place (words.Cend ra) self.old result self.new }
         ensures kept { Keeps slot self.old.unit result self.new.unit }
     {
         match slot {
@@ -210,262 +206,6 @@ impl Core {
                 charge: costs.cost(Class::Cend),
                 to: To::Conclude(self.store.register(ra) != 0),
             }),
-        }
-    }
-
-    // A unit word has been done, or refused.
-    fn come(
-        &mut self,
-        loaded: &Loaded,
-        costs: &Costs,
-        s: u32,
-        kind: Class,
-        did: Result<Option<u32>, TrapKind>,
-    ) -> Result<Went, TrapKind>
-        requires ready { IsStillReady s did self.old.unit }
-        ensures step { (values : List ℤ) → stepped (machine loaded.now values) costs.now self.old.cells (came kind s did self.old.unit) ≡ went (machine loaded.now values) (Some s) result self.new }
-        ensures kept { Keeps (Some s) self.old.unit result self.new.unit }
-    {
-        match did {
-            Err(kind) => Err(kind),
-            Ok(None) => Ok(Went {
-                charge: costs.cost(kind),
-                to: To::Rest,
-            }),
-            Ok(Some(place)) => {
-                self.upper = None;
-                Ok(Went {
-                    charge: costs.cost(kind),
-                    to: To::On(place),
-                })
-            }
-        }
-    }
-
-    // `end`.
-    fn end_in(
-        &mut self,
-        loaded: &Loaded,
-        costs: &Costs,
-        slot: Option<u32>,
-        place: u32,
-    ) -> Result<Went, TrapKind>
-        requires low { place < 2 ^ 20 }
-        requires ready { IfSome slot (λ s. IsTrue (is_ready (slot_of s self.old.unit.tree))) }
-        ensures step { (values : List ℤ) → stepped (machine loaded.now values) costs.now self.old.cells (plan_of loaded.now (who_of slot) place self.old.upper self.old.unit words.End) ≡ went (machine loaded.now values) slot result self.new }
-        ensures kept { Keeps slot self.old.unit result self.new.unit }
-    {
-        match slot {
-            None => Err(TrapKind::WrongPlace),
-            Some(s) => {
-                let did = end(&mut self.unit, loaded, s, place);
-                self.come(loaded, costs, s, Class::End, did)
-            }
-        }
-    }
-
-    // `leave`.
-    fn leave_in(
-        &mut self,
-        loaded: &Loaded,
-        costs: &Costs,
-        slot: Option<u32>,
-        place: u32,
-    ) -> Result<Went, TrapKind>
-        requires low { place < 2 ^ 20 }
-        requires ready { IfSome slot (λ s. IsTrue (is_ready (slot_of s self.old.unit.tree))) }
-        ensures step { (values : List ℤ) → stepped (machine loaded.now values) costs.now self.old.cells (plan_of loaded.now (who_of slot) place self.old.upper self.old.unit words.Leave) ≡ went (machine loaded.now values) slot result self.new }
-        ensures kept { Keeps slot self.old.unit result self.new.unit }
-    {
-        match slot {
-            None => Err(TrapKind::WrongPlace),
-            Some(s) => {
-                let did = leave_word(&mut self.unit, loaded, s, place);
-                self.come(loaded, costs, s, Class::Leave, did)
-            }
-        }
-    }
-
-    // `abrt`.
-    fn abrt_in(
-        &mut self,
-        loaded: &Loaded,
-        costs: &Costs,
-        slot: Option<u32>,
-        place: u32,
-        number: u16,
-    ) -> Result<Went, TrapKind>
-        requires low { place < 2 ^ 20 }
-        requires ready { IfSome slot (λ s. IsTrue (is_ready (slot_of s self.old.unit.tree))) }
-        ensures step { (values : List ℤ) → stepped (machine loaded.now values) costs.now self.old.cells (plan_of loaded.now (who_of slot) place self.old.upper self.old.unit (words.Abrt number)) ≡ went (machine loaded.now values) slot result self.new }
-        ensures kept { Keeps slot self.old.unit result self.new.unit }
-    {
-        match slot {
-            None => Err(TrapKind::WrongPlace),
-            Some(s) => {
-                let did = abrt(&mut self.unit, loaded, s, place, number);
-                self.come(loaded, costs, s, Class::Abrt, did)
-            }
-        }
-    }
-
-    // `call`.
-    fn call_in(
-        &mut self,
-        loaded: &Loaded,
-        costs: &Costs,
-        slot: Option<u32>,
-        place: u32,
-        target: u16,
-    ) -> Result<Went, TrapKind>
-        requires low { place < 2 ^ 20 }
-        requires ready { IfSome slot (λ s. IsTrue (is_ready (slot_of s self.old.unit.tree))) }
-        ensures step { (values : List ℤ) → stepped (machine loaded.now values) costs.now self.old.cells (plan_of loaded.now (who_of slot) place self.old.upper self.old.unit (words.Call target)) ≡ went (machine loaded.now values) slot result self.new }
-        ensures kept { Keeps slot self.old.unit result self.new.unit }
-    {
-        match slot {
-            None => Err(TrapKind::WrongPlace),
-            Some(s) => {
-                let did = call(&mut self.unit, loaded, s, place, target);
-                self.come(loaded, costs, s, Class::Call, did)
-            }
-        }
-    }
-
-    // `ret`.
-    fn ret_in(
-        &mut self,
-        loaded: &Loaded,
-        costs: &Costs,
-        slot: Option<u32>,
-        place: u32,
-    ) -> Result<Went, TrapKind>
-        requires low { place < 2 ^ 20 }
-        requires ready { IfSome slot (λ s. IsTrue (is_ready (slot_of s self.old.unit.tree))) }
-        ensures step { (values : List ℤ) → stepped (machine loaded.now values) costs.now self.old.cells (plan_of loaded.now (who_of slot) place self.old.upper self.old.unit words.Ret) ≡ went (machine loaded.now values) slot result self.new }
-        ensures kept { Keeps slot self.old.unit result self.new.unit }
-    {
-        match slot {
-            None => Err(TrapKind::WrongPlace),
-            Some(s) => {
-                let did = ret(&mut self.unit, loaded, s, place);
-                self.come(loaded, costs, s, Class::Ret, did)
-            }
-        }
-    }
-
-    // `next`.
-    fn next_in(
-        &mut self,
-        loaded: &Loaded,
-        costs: &Costs,
-        slot: Option<u32>,
-        place: u32,
-        target: u16,
-    ) -> Result<Went, TrapKind>
-        requires low { place < 2 ^ 20 }
-        requires ready { IfSome slot (λ s. IsTrue (is_ready (slot_of s self.old.unit.tree))) }
-        ensures step { (values : List ℤ) → stepped (machine loaded.now values) costs.now self.old.cells (plan_of loaded.now (who_of slot) place self.old.upper self.old.unit (words.Next target)) ≡ went (machine loaded.now values) slot result self.new }
-        ensures kept { Keeps slot self.old.unit result self.new.unit }
-    {
-        match slot {
-            None => Err(TrapKind::WrongPlace),
-            Some(s) => {
-                let did = next(&mut self.unit, loaded, s, place, target);
-                self.come(loaded, costs, s, Class::Next, did)
-            }
-        }
-    }
-
-    // `drop`.
-    fn drop_in(
-        &mut self,
-        loaded: &Loaded,
-        costs: &Costs,
-        slot: Option<u32>,
-        place: u32,
-    ) -> Result<Went, TrapKind>
-        requires low { place < 2 ^ 20 }
-        requires ready { IfSome slot (λ s. IsTrue (is_ready (slot_of s self.old.unit.tree))) }
-        ensures step { (values : List ℤ) → stepped (machine loaded.now values) costs.now self.old.cells (plan_of loaded.now (who_of slot) place self.old.upper self.old.unit words.Drop) ≡ went (machine loaded.now values) slot result self.new }
-        ensures kept { Keeps slot self.old.unit result self.new.unit }
-    {
-        match slot {
-            None => Err(TrapKind::WrongPlace),
-            Some(s) => {
-                let did = drop_word(&mut self.unit, loaded, s, place);
-                self.come(loaded, costs, s, Class::Drop, did)
-            }
-        }
-    }
-
-    // `loop`.
-    fn loop_in(
-        &mut self,
-        loaded: &Loaded,
-        costs: &Costs,
-        slot: Option<u32>,
-        place: u32,
-        low: u16,
-    ) -> Result<Went, TrapKind>
-        requires low { place < 2 ^ 20 }
-        requires ready { IfSome slot (λ s. IsTrue (is_ready (slot_of s self.old.unit.tree))) }
-        ensures step { (values : List ℤ) → stepped (machine loaded.now values) costs.now self.old.cells (plan_of loaded.now (who_of slot) place self.old.upper self.old.unit (words.Loop low)) ≡ went (machine loaded.now values) slot result self.new }
-        ensures kept { Keeps slot self.old.unit result self.new.unit }
-    {
-        match slot {
-            None => Err(TrapKind::WrongPlace),
-            Some(s) => {
-                let turns = turns(self.upper, low);
-                let did = loop_word(&mut self.unit, loaded, s, place, turns, self.upper, low);
-                self.come(loaded, costs, s, Class::Loop, did)
-            }
-        }
-    }
-
-    // `eot`.
-    fn eot_in(
-        &mut self,
-        loaded: &Loaded,
-        costs: &Costs,
-        slot: Option<u32>,
-        place: u32,
-    ) -> Result<Went, TrapKind>
-        requires low { place < 2 ^ 20 }
-        requires ready { IfSome slot (λ s. IsTrue (is_ready (slot_of s self.old.unit.tree))) }
-        ensures step { (values : List ℤ) → stepped (machine loaded.now values) costs.now self.old.cells (plan_of loaded.now (who_of slot) place self.old.upper self.old.unit words.Eot) ≡ went (machine loaded.now values) slot result self.new }
-        ensures kept { Keeps slot self.old.unit result self.new.unit }
-    {
-        match slot {
-            None => Err(TrapKind::WrongPlace),
-            Some(s) => {
-                let did = eot(&mut self.unit, loaded, s, place);
-                self.come(loaded, costs, s, Class::Eot, did)
-            }
-        }
-    }
-
-    // `fork`.
-    fn fork_in(
-        &mut self,
-        loaded: &Loaded,
-        costs: &Costs,
-        slot: Option<u32>,
-        place: u32,
-        lo: u8,
-        count: u8,
-    ) -> Result<Went, TrapKind>
-        requires low { place < 2 ^ 20 }
-        requires ready { IfSome slot (λ s. IsTrue (is_ready (slot_of s self.old.unit.tree))) }
-        ensures step { (values : List ℤ) → stepped (machine loaded.now values) costs.now self.old.cells (plan_of loaded.now (who_of slot) place self.old.upper self.old.unit (words.Fork lo count)) ≡ went (machine loaded.now values) slot result self.new }
-        ensures kept { Keeps slot self.old.unit result self.new.unit }
-    {
-        match slot {
-            None => Err(TrapKind::WrongPlace),
-            Some(s) => {
-                let did = fork_word(&mut self.unit, loaded, s, place, lo, count);
-                self.come(loaded, costs, s, Class::Fork, did)
-            }
         }
     }
 
@@ -479,8 +219,8 @@ impl Core {
         i: Instr,
     ) -> Result<Went, TrapKind>
         requires low { place < 2 ^ 20 }
-        requires ready { IfSome slot (λ s. IsTrue (is_ready (slot_of s self.old.unit.tree))) }
-        ensures step { (values : List ℤ) → stepped (machine loaded.now values) costs.now self.old.cells (plan_of loaded.now (who_of slot) place self.old.upper self.old.unit i) ≡ went (machine loaded.now values) slot result self.new }
+        requires ready { IsTurn slot self.old.unit }
+        ensures step { IsWord loaded.now costs.now slot place i self.old result self.new }
         ensures kept { Keeps slot self.old.unit result self.new.unit }
     {
         match i {
@@ -535,8 +275,8 @@ impl Core {
         word: Option<Option<Instr>>,
     ) -> Result<Went, TrapKind>
         requires low { place < 2 ^ 20 }
-        requires ready { IfSome slot (λ s. IsTrue (is_ready (slot_of s self.old.unit.tree))) }
-        ensures step { (values : List ℤ) → stepped (machine loaded.now values) costs.now self.old.cells (plan_found loaded.now (who_of slot) place self.old.upper self.old.unit word) ≡ went (machine loaded.now values) slot result self.new }
+        requires ready { IsTurn slot self.old.unit }
+        ensures step { IsStep loaded.now costs.now slot (found_at loaded.now slot place self.old word) self.old result self.new }
         ensures kept { Keeps slot self.old.unit result self.new.unit }
     {
         match word {
@@ -561,8 +301,8 @@ impl Core {
         place: u32,
     ) -> Result<Went, TrapKind>
         requires size { length loaded.now.code ≤ 65536 }
-        requires ready { IfSome slot (λ s. IsTrue (is_ready (slot_of s self.old.unit.tree))) }
-        ensures step { (values : List ℤ) → stepped (machine loaded.now values) costs.now self.old.cells (plan_word loaded.now (who_of slot) place self.old.upper self.old.unit (slice_get loaded.now.code place)) ≡ went (machine loaded.now values) slot result self.new }
+        requires ready { IsTurn slot self.old.unit }
+        ensures step { IsStep loaded.now costs.now slot (plan_there loaded.now slot place self.old) self.old result self.new }
         ensures kept { Keeps slot self.old.unit result self.new.unit }
     {
         if place as usize >= loaded.image().code().len() {

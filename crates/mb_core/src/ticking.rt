@@ -1,15 +1,11 @@
-ghost use Rattle.std.specs.Prelude.{◌≡◌, ◌≤◌, ◌+◌, ℕ, IfOk, IsTrue, is_some, length, None, Some, Ok, suc, List, ℤ, is_ok, if◌then◌else◌, slice_get};
+ghost use Rattle.std.specs.Prelude.{◌≡◌, ◌≤◌, IfOk, IsTrue, is_some, is_ok, length, None, Some, Ok, if◌then◌else◌};
 ghost use Rattle.mb_isa.specs.Costs.{IsCosts};
-ghost use Rattle.mb_pfu.specs.Rows.{is_ready};
-ghost use Rattle.mb_pfu.specs.Tree.{slot_of, next_test};
-ghost use Rattle.mb_step.specs.Control.{turns_on, tests_on, answered};
-ghost use Rattle.mb_step.specs.Words.{plan_word};
-ghost use Rattle.mb_step.specs.Step.{step, stepped, samples_on};
-ghost use Rattle.mb_step.specs.Tick.{run, tick, base_of, begun};
-ghost use Rattle.mb_step.specs.Cells.{machine, outputs_of, word_at};
-ghost use Rattle.pt_image.specs.declared.Parts.{Parts};
-ghost use Rattle.mb_core.specs.Going.{went, who_of, KeepsTurn, Keeps};
-ghost use Rattle.mb_core.specs.Phases.{phase_of, slot_in, place_in, control_of, IsPhase, moved, IsMoved, ended};
+ghost use Rattle.mb_pfu.specs.Tree.{next_test};
+ghost use Rattle.mb_step.specs.Control.{turns_on, tests_on};
+ghost use Rattle.mb_step.specs.Step.{samples_on};
+ghost use Rattle.mb_step.specs.Cells.{machine, outputs_of};
+ghost use Rattle.mb_core.specs.Going.{went, KeepsTurn};
+ghost use Rattle.mb_core.specs.Phases.{place_in, control_of, moved, IsPhase, IsMoved, IsAdvance, IsAfterTurn, IsRun, IsTick};
 
 use crate::core_state::Core;
 use crate::loading::Loaded;
@@ -80,7 +76,7 @@ impl Core {
         requires size { length loaded.now.code ≤ 65536 }
         requires phase { IsPhase phase self.old.unit }
         requires place { place_in phase ≡ Some place }
-        ensures step { step (machine loaded.now values.now) costs.now loaded.now (control_of phase self.old) self.old.cells ≡ moved result self.new }
+        ensures step { IsAdvance loaded.now costs.now values.now phase self.old result self.new }
         ensures phase { IsMoved result self.new.unit }
     {
         match phase {
@@ -129,7 +125,7 @@ impl Core {
     // What comes after a step of a slot in its turn.
     fn after_turn(&mut self, s: u32, did: Went) -> Moved
         requires kept { KeepsTurn s did.to self.old.unit }
-        ensures step { (image : Parts) (values : List ℤ) → went (machine image values) (Some s) (Ok did) self.old ≡ moved (Ok result) self.new }
+        ensures step { IsAfterTurn s did self.old result self.new }
         ensures phase { IsPhase result.phase self.new.unit }
     {
         match did.to {
@@ -166,7 +162,7 @@ impl Core {
         requires priced { IsCosts costs.now }
         requires size { length loaded.now.code ≤ 65536 }
         requires phase { IsPhase start self.old.unit }
-        ensures steps { (charged : ℕ) × (run (machine loaded.now values.now) loaded.now costs.now (suc most) most begin (control_of start self.old) self.old.cells ≡ ended result charged self.new) }
+        ensures steps { IsRun loaded.now costs.now values.now most begin start self.old result self.new }
         ensures within { IfOk result (λ cycles. cycles ≤ most) }
     {
         let mut charged = begin;
@@ -212,7 +208,7 @@ pub fn tick(
 ) -> Result<u64, Trap>
     requires row { length values.now ≡ length loaded.now.inputs }
     requires out { length out.old ≡ length loaded.now.outputs }
-    ensures tick { (charged : ℕ) × (tick (machine loaded.now values.now) loaded.now costs.now most core.old.unit core.old.cells ≡ ended result charged core.new) }
+    ensures tick { IsTick loaded.now costs.now values.now most core.old result core.new }
     ensures within { IfOk result (λ cycles. cycles ≤ most) }
     ensures outputs { out.new ≡ (if is_ok result then outputs_of loaded.now core.new.cells else out.old) }
 {

@@ -1,6 +1,7 @@
 //! The unit words of a slot in its turn.
 
-ghost use Rattle.std.specs.Prelude.{◌≡◌, ℤ, Option, ◌+◌, ◌^◌, ◌<◌, ◌≤◌, ◌-◌, ◌++◌, [], ◌∷◌, IsTrue, None, Ok, length, map, slice_get, take, drop, Some};
+ghost use Rattle.std.specs.Prelude.{◌≡◌, ℤ, Option, ◌+◌, ◌^◌, ◌<◌, ◌≤◌, ◌-◌, ◌++◌, [], ◌∷◌};
+ghost use Rattle.std.specs.Prelude.{IsTrue, None, Ok, length, map, slice_get, take, drop, Some};
 ghost use Rattle.mb_isa.specs.declared.Class.TheVariants as class;
 ghost use Rattle.mb_isa.specs.declared.Instr.TheVariants as words;
 ghost use Rattle.mb_pfu.specs.Rows.{is_ready};
@@ -9,7 +10,7 @@ ghost use Rattle.mb_pfu.specs.Unit.{State, fresh};
 ghost use Rattle.mb_step.specs.Control.{Turn, stack_of};
 ghost use Rattle.mb_isa.specs.Operands.{turns_of};
 ghost use Rattle.mb_step.specs.Words.{plan_of, enters};
-ghost use Rattle.mb_core.specs.Going.{came, IsStillReady};
+ghost use Rattle.mb_core.specs.Going.{came, IsTurnPlan, IsStillReady};
 
 use crate::loading::Loaded;
 use arrayvec::ArrayVec;
@@ -31,7 +32,7 @@ fn stack_of(unit: &Unit, s: u32) -> ArrayVec<u32, 8>
 pub fn eot(unit: &mut Unit, loaded: &Loaded, s: u32, place: u32) -> Result<Option<u32>, TrapKind>
     requires ready { IsTrue (is_ready (slot_of s unit.old.tree)) }
     requires low { place < 2 ^ 20 }
-    ensures plan { (upper : Option ℤ) → plan_of loaded.now (Turn s) place upper unit.old words.Eot ≡ came class.Eot s result unit.new }
+    ensures plan { IsTurnPlan loaded.now s place unit.old words.Eot (came class.Eot s result unit.new) }
     ensures kept { IsStillReady s result unit.new }
 {
     let stack = stack_of(unit, s);
@@ -55,7 +56,7 @@ pub fn fork_word(
 ) -> Result<Option<u32>, TrapKind>
     requires ready { IsTrue (is_ready (slot_of s unit.old.tree)) }
     requires low { place < 2 ^ 20 }
-    ensures plan { (upper : Option ℤ) → plan_of loaded.now (Turn s) place upper unit.old (words.Fork lo count) ≡ came class.Fork s result unit.new }
+    ensures plan { IsTurnPlan loaded.now s place unit.old (words.Fork lo count) (came class.Fork s result unit.new) }
     ensures kept { IsStillReady s result unit.new }
 {
     let stack = stack_of(unit, s);

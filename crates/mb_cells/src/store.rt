@@ -3,8 +3,9 @@ ghost use Rattle.std.specs.Ordering.{int_eq};
 ghost use Rattle.std.specs.Int.{w32, cast_signed, cast_unsigned};
 ghost use Rattle.pt_base.specs.Operators.{binary_of};
 ghost use Rattle.mb_isa.specs.Operands.{immediate};
-ghost use Rattle.mb_step.specs.Cells.{register, with_register, word_at, with_word, with_top, compared, logical_right, value_of, value_with, loaded, stored, cells_do, is_taken, with_inputs};
-ghost use Rattle.mb_core.specs.Going.{DoesWork};
+ghost use Rattle.mb_step.specs.Cells.{register, with_register, word_at, with_word, with_top, compared, logical_right, value_of};
+ghost use Rattle.mb_step.specs.Cells.{value_with, loaded, stored, cells_do, is_taken, with_inputs};
+ghost use Rattle.mb_cells.specs.Doing.{DoesWork};
 
 use mb_isa::{Instr, Reg, immediate, word_at_byte};
 use pt_base::{BinOp, binary};
@@ -48,7 +49,9 @@ fn compared(a: i32, b: i32) -> i32
 fn logical_right(a: i32, b: i32) -> i32
     ensures { result ≡ logical_right a b }
 {
-    a.cast_unsigned().wrapping_shr(b.cast_unsigned()).cast_signed()
+    a.cast_unsigned()
+        .wrapping_shr(b.cast_unsigned())
+        .cast_signed()
 }
 
 impl Store {

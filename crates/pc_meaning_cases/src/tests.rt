@@ -1,3 +1,4 @@
+use pc_generator::generate;
 use pc_meaning::meaning_of;
 use pc_typed::Typed;
 use pc_verdict::judged;
@@ -107,5 +108,28 @@ const SAMPLER: &[u8] =
 fn the_sampler_begins_anew_after_a_reset(rt: HostRuntime) -> Result<(), Fail> {
     let rows = pairs_of(rt.alloc(), &[(0, 10), (0, 20), (1, 30), (0, 40), (0, 50)])?;
     assert!(rt; shows(rt.alloc(), SAMPLER, &rows, &[0, 10, 20, 0, 40])?);
+    Ok(())
+}
+
+// The sum of the outputs of a generated program, where tick j has the input j modulo 10.
+fn generated_sum(alloc: Global, threads: u32, ticks: i32) -> Result<i32, Refusal> {
+    let accepted = judged(alloc, &generate(alloc, threads)?)?;
+    let mut inputs = Vec::new(alloc);
+    for tick in 0..ticks {
+        inputs.push(tick % 10)?;
+    }
+    let rows = rows_of(alloc, &inputs)?;
+    let all = shown(alloc, &accepted.typed, &rows)?;
+    let mut sum: i32 = 0;
+    for output in &all {
+        sum = sum.wrapping_add(*output);
+    }
+    Ok(sum)
+}
+
+#[test]
+fn generated_programs_sum_what_they_show(rt: HostRuntime) -> Result<(), Fail> {
+    assert_eq!(rt; generated_sum(rt.alloc(), 1, 1000)?, 16500);
+    assert_eq!(rt; generated_sum(rt.alloc(), 3, 1000)?, 99000);
     Ok(())
 }

@@ -12,11 +12,11 @@ use Rattle.pt_trace.specs.Report.{tick_line, greatest, worst_line}
 use Rattle.pretc_run.specs.Lines.{tick_lines, last_line}
 use Rattle.pt_trace.proofs.Chaining.{begins_with_none, gives_one_more, ends_with_all, ended_with_all, refuses_the_first, fails_after_whole, pulls_few, pulled_few}
 use Rattle.mb_pfu.specs.declared.TrapKind.{TrapKind}
-use Rattle.mb_core.specs.declared.trap.Trap.{Trap}
-use Rattle.mb_core.specs.State.{State}
+use Rattle.mb_core.specs.declared.parts.Trap.{Trap}
+use Rattle.mb_step.specs.Run.{MachineState}
 use Rattle.mb_core.specs.Machine.{Whole, fresh, tick_of, tick_after, Ticks}
-use Rattle.mb_core.specs.Tick.{Outcome, Ends, Trapped, tick_from}
-use Rattle.mb_core.specs.Run.{run, loaded, ticks_from, after_tick}
+use Rattle.mb_step.specs.Run.{Ticked, Ends, Trapped, tick_from}
+use Rattle.mb_step.specs.Run.{run_of, loaded, ticks_from, after_tick}
 use Rattle.pretc_run.specs.declared.endings.Ending.{Ending}
 use Rattle.pretc_run.specs.declared.endings.Ending.TheVariants as end
 use Rattle.pretc_run.specs.Endings.{line_of}
@@ -32,7 +32,7 @@ abbrev at_of : Result ℕ Trap → ℕ
 at_of (Ok cycles) = 0
 at_of (Err trap) = trap.at
 
-pub trap_comes : (o : Outcome) (tick : ℕ) (old new : Whole) (worst : ℕ) (before : List ℤ) (trap : Trap) (after : List ℤ) (s t : SinkTold) (result : Result (Option Ending) Failed) →
+pub trap_comes : (o : Ticked) (tick : ℕ) (old new : Whole) (worst : ℕ) (before : List ℤ) (trap : Trap) (after : List ℤ) (s t : SinkTold) (result : Result (Option Ending) Failed) →
     Ticks o old before (Err trap) new after → SaysLast (end.Trapped trap.at tick) (line_of (end.Trapped trap.at tick)) s t result → TickComes o tick old new worst worst s t result
 trap_comes (Ends cycles outputs state) tick old new worst before trap after s t result h said = absurd (cc (h.0))
 trap_comes (Trapped kind at charged) tick old new worst before trap after s t result h said =
@@ -41,16 +41,16 @@ trap_comes (Trapped kind at charged) tick old new worst before trap after s t re
 
 -- ---- the ticks that are told
 
-all_ended_push : (os : List Outcome) (c : ℕ) (o : List ℤ) (s : State) → AllEnded os → AllEnded (os ++ Ends c o s ∷ [])
+all_ended_push : (os : List Ticked) (c : ℕ) (o : List ℤ) (s : MachineState) → AllEnded os → AllEnded (os ++ Ends c o s ∷ [])
 all_ended_push [] c o s h = (tt, tt)
 all_ended_push (x ∷ os) c o s h = (h.0, all_ended_push os c o s h.1)
 
-told_push : (os : List Outcome) (c : ℕ) (o : List ℤ) (s : State) → told (os ++ Ends c o s ∷ []) ≡ told os ++ (o, c) ∷ []
+told_push : (os : List Ticked) (c : ℕ) (o : List ℤ) (s : MachineState) → told (os ++ Ends c o s ∷ []) ≡ told os ++ (o, c) ∷ []
 told_push [] c o s = refl
 told_push (Ends d p t ∷ os) c o s = ap (λ l. (p, d) ∷ l) (told_push os c o s)
 told_push (Trapped kind at charged ∷ os) c o s = told_push os c o s
 
-told_count : (os : List Outcome) → AllEnded os → length (told os) ≡ length os
+told_count : (os : List Ticked) → AllEnded os → length (told os) ≡ length os
 told_count [] h = refl
 told_count (Ends c o s ∷ os) h = ap suc (told_count os h.1)
 told_count (Trapped kind at charged ∷ os) h = absurd h.0
@@ -72,12 +72,12 @@ tick_is image costs m most row i c t =
     ap (λ trap. tick_after trap m row most) t ∙ ap (λ image. tick_from image m.costs m.state row most) i ∙ ap (λ costs. tick_from image costs m.state row most) c
 
 pub run_is : (start : Start) (rows : List (List ℤ)) (m : Whole) (r : Reader) (w : ℕ) (src : SourceTold) (k : SinkTold) (u : IsUnderWay start rows m r w src k) →
-    run start.image start.costs start.most rows ≡ u.outcomes
+    run_of start.image start.costs start.most rows ≡ u.outcomes
 run_is start rows m r w src k u =
     ap (ticks_from start.image start.costs start.most (loaded start.image)) (sym (append-nil rows)) ∙ u.run [] ∙ append-nil u.outcomes
 
 -- the run on one row more, whatever comes after it
-run_more : (start : Start) (rows : List (List ℤ)) (row : List ℤ) (m : Whole) (r : Reader) (w : ℕ) (src : SourceTold) (k : SinkTold) (u : IsUnderWay start rows m r w src k) (o : Outcome) →
+run_more : (start : Start) (rows : List (List ℤ)) (row : List ℤ) (m : Whole) (r : Reader) (w : ℕ) (src : SourceTold) (k : SinkTold) (u : IsUnderWay start rows m r w src k) (o : Ticked) →
     tick_of m row start.most ≡ o → (more : List (List ℤ)) →
     ticks_from start.image start.costs start.most (loaded start.image) (rows ++ row ∷ more) ≡ u.outcomes ++ after_tick (λ s. ticks_from start.image start.costs start.most s more) o
 run_more start rows row m r w src k u o is more =
@@ -88,11 +88,11 @@ run_more start rows row m r w src k u o is more =
 lines_are : (start : Start) (rows : List (List ℤ)) (m : Whole) (r : Reader) (w : ℕ) (src : SourceTold) (k : SinkTold) (u : IsUnderWay start rows m r w src k) →
     Wrote start.sink k (run_lines start.image start.costs start.most rows)
 lines_are start rows m r w src k u =
-    let P : List Outcome → Type 0 = λ os. Wrote start.sink k (tick_lines 0 (told os)) in
+    let P : List Ticked → Type 0 = λ os. Wrote start.sink k (tick_lines 0 (told os)) in
     subst P (sym (run_is start rows m r w src k u)) u.wrote
 
 are_ended : (start : Start) (rows : List (List ℤ)) (m : Whole) (r : Reader) (w : ℕ) (src : SourceTold) (k : SinkTold) (u : IsUnderWay start rows m r w src k) →
-    AllEnded (run start.image start.costs start.most rows)
+    AllEnded (run_of start.image start.costs start.most rows)
 are_ended start rows m r w src k u = subst AllEnded (sym (run_is start rows m r w src k u)) u.ended
 
 -- the last line is said
@@ -120,12 +120,12 @@ says_last start rows m n r s w v src now k l e line (Err failed) u ends h =
 -- ---- a tick
 
 -- the tick on one row more ended, and its line was written
-ticked : (start : Start) (rows : List (List ℤ)) (row outputs : List ℤ) (cycles tick : ℕ) (state : State) (m n : Whole) (r s : Reader) (w v : ℕ) (src now : SourceTold) (k l : SinkTold) →
+ticked : (start : Start) (rows : List (List ℤ)) (row outputs : List ℤ) (cycles tick : ℕ) (state : MachineState) (m n : Whole) (r s : Reader) (w v : ℕ) (src now : SourceTold) (k l : SinkTold) →
     IsUnderWay start rows m r w src k → tick_of m row start.most ≡ Ends cycles outputs state → r.ended ≡ false → GaveRow r s (unread r src.left) now.left row → now.faults ≡ src.faults →
     tick ≡ length rows → TickEnds cycles m n w v → n.state ≡ state → Wrote k l (tick_line tick outputs (Some cycles) ∷ []) → IsUnderWay start (rows ++ row ∷ []) n s v now l
 ticked start rows row outputs cycles tick state m n r s w v src now k l u is opened gave stays number ends state_is wrote =
-    let run_of : State → List (List ℤ) → List Outcome = λ t more. ticks_from start.image start.costs start.most t more in
-    let o : Outcome = Ends cycles outputs state in
+    let run_of : MachineState → List (List ℤ) → List Ticked = λ t more. ticks_from start.image start.costs start.most t more in
+    let o : Ticked = Ends cycles outputs state in
     let line : 0 + length (told u.outcomes) ≡ tick = omega (arith, told_count u.outcomes u.ended, u.count, number) in
     let lines : tick_lines 0 (told (u.outcomes ++ o ∷ [])) ≡ tick_lines 0 (told u.outcomes) ++ tick_line tick outputs (Some cycles) ∷ [] =
     ap (tick_lines 0) (told_push u.outcomes cycles outputs state)
@@ -158,13 +158,13 @@ read_more start rows row m r s w src now k u opened gave few =
     pulls_few _ _ s now.left (rows ++ row ∷ []) (gives_one_more _ _ r s src.left now.left rows row opened u.given gave) few
 
 -- the tick on one row more ended, and its line broke off
-tick_breaks : (start : Start) (rows : List (List ℤ)) (row outputs : List ℤ) (cycles tick : ℕ) (state : State) (m : Whole) (r s : Reader) (w : ℕ) (src now : SourceTold) (k l : SinkTold) →
+tick_breaks : (start : Start) (rows : List (List ℤ)) (row outputs : List ℤ) (cycles tick : ℕ) (state : MachineState) (m : Whole) (r s : Reader) (w : ℕ) (src now : SourceTold) (k l : SinkTold) →
     IsUnderWay start rows m r w src k → tick_of m row start.most ≡ Ends cycles outputs state → r.ended ≡ false → GaveRow r s (unread r src.left) now.left row → now.faults ≡ src.faults →
     length s.kept ≤ 2048 → tick ≡ length rows → BrokeOff k l [] (tick_line tick outputs (Some cycles)) → RunBreaks start.image start.costs start.most start.source now start.sink l
 tick_breaks start rows row outputs cycles tick state m r s w src now k l u is opened gave stays few number broke =
-    let o : Outcome = Ends cycles outputs state in
+    let o : Ticked = Ends cycles outputs state in
     let line : List ℕ = tick_line (length rows) outputs (Some cycles) in
-    let run_is_more : run start.image start.costs start.most (rows ++ row ∷ []) ≡ u.outcomes ++ o ∷ [] = run_more start rows row m r w src k u o is [] in
+    let run_is_more : run_of start.image start.costs start.most (rows ++ row ∷ []) ≡ u.outcomes ++ o ∷ [] = run_more start rows row m r w src k u o is [] in
     let B : ℕ → Type 0 = λ n. BrokeOff k l [] (tick_line n outputs (Some cycles)) in
     let P : List (List ℕ) → Type 0 = λ xs. BrokeOff start.sink l xs line in
     record {
@@ -189,7 +189,7 @@ trap_ends start rows row kind at charged tick m r s w src now k u is opened gave
     (record { charged = charged; traps = run_more start rows row m r w src k u (Trapped kind at charged) is [] ∙ ap (λ os. os ++ Trapped kind at charged ∷ []) (sym (run_is start rows m r w src k u)) })
     (stays ∙ u.faults))
 
-steps_by : (start : Start) (rows : List (List ℤ)) (row : List ℤ) (tick : ℕ) (m n : Whole) (r s : Reader) (w v : ℕ) (src now : SourceTold) (k l : SinkTold) (o : Outcome) (result : Result (Option Ending) Failed) →
+steps_by : (start : Start) (rows : List (List ℤ)) (row : List ℤ) (tick : ℕ) (m n : Whole) (r s : Reader) (w v : ℕ) (src now : SourceTold) (k l : SinkTold) (o : Ticked) (result : Result (Option Ending) Failed) →
     IsUnderWay start rows m r w src k → tick_of m row start.most ≡ o → r.ended ≡ false → GaveRow r s (unread r src.left) now.left row → now.faults ≡ src.faults →
     length s.kept ≤ 2048 → tick ≡ length rows → TickComes o tick m n w v k l result → StepComes start rows n s v now l result
 steps_by start rows row tick m n r s w v src now k l (Ends cycles outputs state) (Ok None) u is opened gave stays few number h =
@@ -245,8 +245,8 @@ pub says_worst : (start : Start) (rows : List (List ℤ)) (m : Whole) (r s : Rea
     IsUnderWay start rows m r w src k → IsRead (length start.image.inputs) start.source.left now.left s.given rows → now.faults ≡ src.faults → ticks ≡ s.given →
     SaysLast end.Done (worst_line ticks w) k l result → StepComes start rows m s w now l result
 says_worst start rows m r s w ticks src now k l result u read stays count h =
-    let same : told u.outcomes ≡ told (run start.image start.costs start.most rows) = ap told (sym (run_is start rows m r w src k u)) in
-    let line : worst_line ticks w ≡ last_line (told (run start.image start.costs start.most rows)) =
+    let same : told u.outcomes ≡ told (run_of start.image start.costs start.most rows) = ap told (sym (run_is start rows m r w src k u)) in
+    let line : worst_line ticks w ≡ last_line (told (run_of start.image start.costs start.most rows)) =
     ap (λ n. worst_line n w) (count ∙ read.count ∙ sym u.count ∙ sym (told_count u.outcomes u.ended))
     ∙ ap (λ n. worst_line (length (told u.outcomes)) n) u.worst_is
     ∙ ap last_line same in

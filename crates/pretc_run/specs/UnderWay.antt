@@ -8,8 +8,8 @@ use Rattle.pt_trace.specs.Given.{HasGiven}
 use Rattle.pt_trace.specs.Report.{tick_line, greatest}
 use Rattle.pretc_run.specs.Lines.{tick_lines}
 use Rattle.mb_core.specs.Machine.{Whole}
-use Rattle.mb_core.specs.Run.{loaded, ticks_from}
-use Rattle.mb_core.specs.Tick.{Outcome, Ends, Trapped}
+use Rattle.mb_step.specs.Run.{loaded, ticks_from}
+use Rattle.mb_step.specs.Run.{Ticked, Ends, Trapped}
 use Rattle.pretc_run.specs.declared.endings.Ending.{Ending}
 use Rattle.pretc_run.specs.declared.endings.Ending.TheVariants as end
 use Rattle.pretc_run.specs.Endings.{line_of}
@@ -27,7 +27,7 @@ pub record Start : Type 0 where
 
 -- the ticks on these rows are done, none of them trapped, and their lines are written
 pub record IsUnderWay (start : Start) (rows : List (List ℤ)) (machine : Whole) (reader : Reader) (worst : ℕ) (source : SourceTold) (sink : SinkTold) : Type 0 where
-  pub outcomes : List Outcome
+  pub outcomes : List Ticked
   pub image_is : machine.image ≡ start.image
   pub costs_is : machine.costs ≡ start.costs
   pub going : machine.trap ≡ None
@@ -58,7 +58,7 @@ pub record TickEnds (cycles : ℕ) (old new : Whole) (worst now : ℕ) : Type 0 
   pub going : new.trap ≡ None
   pub worst_is : now ≡ max worst cycles
 
-abbrev pub TickComes : Outcome → ℕ → Whole → Whole → ℕ → ℕ → SinkTold → SinkTold → Result (Option Ending) Failed → Type 0
+abbrev pub TickComes : Ticked → ℕ → Whole → Whole → ℕ → ℕ → SinkTold → SinkTold → Result (Option Ending) Failed → Type 0
 TickComes (Ends cycles outputs state) tick old new worst now before after (Ok None) =
     TickEnds cycles old new worst now × (new.state ≡ state) × Wrote before after (tick_line tick outputs (Some cycles) ∷ [])
 TickComes (Ends cycles outputs state) tick old new worst now before after (Ok (Some e)) = ⊥

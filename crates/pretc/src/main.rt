@@ -7,50 +7,61 @@ use pt_base::{Memory, Text};
 use pt_host::{HostShelf, HostSink, HostSource};
 use pt_outside::Sink;
 use std::alloc::Global;
+use std::env::FillError;
+use std::io;
 use std::process::ExitCode;
-use std::{env, io};
+use std::rt::Env;
 
-// Why there are no words.
-#[derive(Clone, Copy)]
-enum NoWords {
-    NotText,
-    Memory,
-}
+// The exit status of a call without memory, and that of one whose output couldn't be written.
+const WANT_OF_MEMORY: u8 = 5;
 
-impl From<Memory> for NoWords {
-    fn from(_memory: Memory) -> Self {
-        NoWords::Memory
+const WRITE_FAULT: u8 = 4;
+
+// The bytes of an argument, whatever they are; none behind the last one.
+fn argument(alloc: Global, env: &impl Env, number: usize) -> Result<Option<Text>, Memory> {
+    let mut room = 256;
+    for _ in 0..usize::BITS {
+        let mut buffer = vec![in alloc; 0u8; room]?;
+        match env.arg(number, &mut buffer) {
+            Ok(count) => return Ok(Some(Text::of(alloc, &buffer[..count])?)),
+            Err(FillError::NotPresent) => return Ok(None),
+            Err(FillError::TooLong) => room = room.saturating_mul(2),
+        }
     }
+    Err(Memory)
 }
 
 // The words after the program's name.
-fn words(rt: &HostRuntime) -> Result<Vec<Text>, NoWords> {
-    let arguments = match env::args(rt) {
-        Ok(arguments) => arguments,
-        Err(e) if e.kind() == io::ErrorKind::OutOfMemory => return Err(NoWords::Memory),
-        Err(_) => return Err(NoWords::NotText),
-    };
-    let mut words = Vec::new(rt.alloc());
-    for argument in arguments.skip(1) {
-        let word = Text::of(rt.alloc(), argument.as_bytes())?;
-        if words.push(word).is_err() {
-            return Err(NoWords::Memory);
+fn words(alloc: Global, env: &impl Env) -> Result<Vec<Text>, Memory> {
+    let mut words = Vec::new(alloc);
+    for number in 1..usize::MAX {
+        match argument(alloc, env, number)? {
+            Some(word) => {
+                if words.push(word).is_err() {
+                    return Err(Memory);
+                }
+            }
+            None => break,
         }
     }
     Ok(words)
+}
+
+// The end of a call that found no memory for its words.
+fn without_words<O: Sink>(out: &mut O) -> u8 {
+    if out.push(b"want of memory\n").is_err() || out.flush().is_err() {
+        return WRITE_FAULT;
+    }
+    WANT_OF_MEMORY
 }
 
 fn main(rt: HostRuntime) -> ExitCode {
     let mut shelf = HostShelf::over(&rt);
     let mut input = HostSource::over(rt.reader());
     let mut out = HostSink::over(io::writer(&rt));
-    let words = match words(&rt) {
-        Ok(words) => words,
-        Err(NoWords::NotText) => Vec::new(rt.alloc()),
-        Err(NoWords::Memory) => {
-            let _failed = out.push(b"want of memory\n").is_err();
-            return ExitCode::from(5);
-        }
+    let status = match words(rt.alloc(), &rt) {
+        Ok(words) => pretc(rt.alloc(), &words, &mut shelf, &mut input, &mut out),
+        Err(_) => without_words(&mut out),
     };
-    ExitCode::from(pretc(rt.alloc(), &words, &mut shelf, &mut input, &mut out))
+    ExitCode::from(status)
 }

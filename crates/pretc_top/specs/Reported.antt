@@ -1,6 +1,7 @@
 -- What the lines of a report have written.
-use Rattle.std.specs.Prelude.{◌≡◌, ℕ, ℤ, List, Option, Some, None, OnOk, OnErr, IfOk, Result}
+use Rattle.std.specs.Prelude.{◌≡◌, ◌≤◌, ℕ, ℤ, List, Option, Some, None, OnOk, OnErr, IfOk, Result}
 use Rattle.std.specs.Io.KnownBytes.{Appends}
+use Rattle.pt_outside.specs.Counts.{Rose}
 use Rattle.pt_outside.specs.Files.{AppendsFront}
 use Rattle.pt_trace.specs.Report.{tick_line}
 use Rattle.mb_core.specs.Machine.{Whole}
@@ -23,6 +24,11 @@ TickWritten (Trapped kind at charged) tick old new before after result = ⊥
 -- what a report tells of the ticks of a machine from a state on
 abbrev pub told_by : Whole → ℕ → List (List ℤ) → List (List ℤ × ℕ)
 told_by machine most rows = told (ticks_from machine.image machine.costs most machine.state rows)
+
+-- a sink's count of faults didn't fall, and rose where the writing failed
+pub record HasFault {T E : Type 0} (before now : ℕ) (result : Result T E) : Type 0 where
+  pub later : before ≤ now
+  pub failed : OnErr result (Rose before now)
 
 -- no tick of the machine traps on these rows
 abbrev pub NeverTraps : Whole → ℕ → List (List ℤ) → Type 0

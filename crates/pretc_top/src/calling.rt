@@ -65,11 +65,11 @@ fn called<H: Shelf, I: Source, O: Sink>(
     input: &mut I,
     out: &mut O,
 ) -> u8
-    ensures comes { Comes words.now.items (outside (H.files shelf.old) (H.load_faults shelf.old) (H.store_faults shelf.old) (I.left input.old) (I.faults input.old)) (outside (H.files shelf.new) (H.load_faults shelf.new) (H.store_faults shelf.new) (I.left input.new) (I.faults input.new)) (written_is (O.written out.old) (O.faults out.old)) (written_is (O.written out.new) (O.faults out.new)) result }
-    ensures load_faults { H.load_faults shelf.old ≤ H.load_faults shelf.new }
-    ensures store_faults { H.store_faults shelf.old ≤ H.store_faults shelf.new }
-    ensures source_faults { I.faults input.old ≤ I.faults input.new }
-    ensures sink_faults { O.faults out.old ≤ O.faults out.new }
+    ensures comes { Comes words.now.items (outside (H.told shelf.old).files (H.told shelf.old).load_faults (H.told shelf.old).store_faults (I.told input.old).left (I.told input.old).faults) (outside (H.told shelf.new).files (H.told shelf.new).load_faults (H.told shelf.new).store_faults (I.told input.new).left (I.told input.new).faults) (written_is (O.told out.old).written (O.told out.old).faults) (written_is (O.told out.new).written (O.told out.new).faults) result }
+    ensures load_faults { (H.told shelf.old).load_faults ≤ (H.told shelf.new).load_faults }
+    ensures store_faults { (H.told shelf.old).store_faults ≤ (H.told shelf.new).store_faults }
+    ensures source_faults { (I.told input.old).faults ≤ (I.told input.new).faults }
+    ensures sink_faults { (O.told out.old).faults ≤ (O.told out.new).faults }
 {
     match call_of(words) {
         None => finish(Status::Usage, out),
@@ -91,15 +91,15 @@ pub fn pretc<H: Shelf, I: Source, O: Sink>(
     input: &mut I,
     out: &mut O,
 ) -> u8
-    ensures comes { Comes words.now.items (outside (H.files shelf.old) (H.load_faults shelf.old) (H.store_faults shelf.old) (I.left input.old) (I.faults input.old)) (outside (H.files shelf.new) (H.load_faults shelf.new) (H.store_faults shelf.new) (I.left input.new) (I.faults input.new)) (written_is (O.written out.old) (O.faults out.old)) (written_is (O.written out.new) (O.faults out.new)) result }
+    ensures comes { Comes words.now.items (outside (H.told shelf.old).files (H.told shelf.old).load_faults (H.told shelf.old).store_faults (I.told input.old).left (I.told input.old).faults) (outside (H.told shelf.new).files (H.told shelf.new).load_faults (H.told shelf.new).store_faults (I.told input.new).left (I.told input.new).faults) (written_is (O.told out.old).written (O.told out.old).faults) (written_is (O.told out.new).written (O.told out.new).faults) result }
     ensures usage { result ≡ 2 → command_of words.now.items ≡ None }
     ensures usage_comes { command_of words.now.items ≡ None → (result ≡ 2) ⊎ (result ≡ 4) }
-    ensures bound { result ≡ 0 → BoundHolds (command_of words.now.items) (H.files shelf.old) }
-    ensures refused { result ≡ 1 → IsRefusedBy (command_of words.now.items) (H.files shelf.old) }
-    ensures no_file { result ≡ 17 → LacksFile (command_of words.now.items) (H.files shelf.old) }
-    ensures read_fault { result ≡ 3 → Rose (H.load_faults shelf.old) (H.load_faults shelf.new) ⊎ Rose (I.faults input.old) (I.faults input.new) }
-    ensures write_fault { result ≡ 4 → Rose (O.faults out.old) (O.faults out.new) }
-    ensures store_fault { result ≡ 11 → Rose (H.store_faults shelf.old) (H.store_faults shelf.new) }
+    ensures bound { result ≡ 0 → BoundHolds (command_of words.now.items) (H.told shelf.old).files }
+    ensures refused { result ≡ 1 → IsRefusedBy (command_of words.now.items) (H.told shelf.old).files }
+    ensures no_file { result ≡ 17 → LacksFile (command_of words.now.items) (H.told shelf.old).files }
+    ensures read_fault { result ≡ 3 → Rose (H.told shelf.old).load_faults (H.told shelf.new).load_faults ⊎ Rose (I.told input.old).faults (I.told input.new).faults }
+    ensures write_fault { result ≡ 4 → Rose (O.told out.old).faults (O.told out.new).faults }
+    ensures store_fault { result ≡ 11 → Rose (H.told shelf.old).store_faults (H.told shelf.new).store_faults }
 {
     called(alloc, words, shelf, input, out)
 }

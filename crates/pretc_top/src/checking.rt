@@ -123,11 +123,11 @@ fn load_both<H: Shelf>(
     cert: &Text,
     shelf: &mut H,
 ) -> Result<(Text, Text), Status>
-    ensures loaded { IfOk result (λ texts. AreLoaded image.now cert.now (H.files shelf.old) texts.0 texts.1) }
-    ensures failed { IfErr result (λ status. LoadsFail status image.now cert.now (H.files shelf.old) (H.load_faults shelf.old) (H.load_faults shelf.new)) }
-    ensures files { KeepsFiles (H.files shelf.old) (H.files shelf.new) }
-    ensures load_faults { H.load_faults shelf.old ≤ H.load_faults shelf.new }
-    ensures store_faults { H.store_faults shelf.old ≤ H.store_faults shelf.new }
+    ensures loaded { IfOk result (λ texts. AreLoaded image.now cert.now (H.told shelf.old).files texts.0 texts.1) }
+    ensures failed { IfErr result (λ status. LoadsFail status image.now cert.now (H.told shelf.old).files (H.told shelf.old).load_faults (H.told shelf.new).load_faults) }
+    ensures files { KeepsFiles (H.told shelf.old).files (H.told shelf.new).files }
+    ensures load_faults { (H.told shelf.old).load_faults ≤ (H.told shelf.new).load_faults }
+    ensures store_faults { (H.told shelf.old).store_faults ≤ (H.told shelf.new).store_faults }
 {
     let image_text = match load_text(alloc, image, IMAGE_MOST, shelf) {
         Ok(text) => text,
@@ -154,10 +154,10 @@ fn verdict_of<H: Shelf>(
     costs: &Text,
     shelf: &mut H,
 ) -> Verdict
-    ensures case { CheckCase result.status image.now cert.now costs.now (H.files shelf.old) (H.load_faults shelf.old) (H.load_faults shelf.new) result.line }
-    ensures files { KeepsFiles (H.files shelf.old) (H.files shelf.new) }
-    ensures load_faults { H.load_faults shelf.old ≤ H.load_faults shelf.new }
-    ensures store_faults { H.store_faults shelf.old ≤ H.store_faults shelf.new }
+    ensures case { CheckCase result.status image.now cert.now costs.now (H.told shelf.old).files (H.told shelf.old).load_faults (H.told shelf.new).load_faults result.line }
+    ensures files { KeepsFiles (H.told shelf.old).files (H.told shelf.new).files }
+    ensures load_faults { (H.told shelf.old).load_faults ≤ (H.told shelf.new).load_faults }
+    ensures store_faults { (H.told shelf.old).store_faults ≤ (H.told shelf.new).store_faults }
 {
     if !is_unit(costs) {
         return said(Status::NotBuilt);
@@ -177,11 +177,11 @@ pub fn check_files<H: Shelf, O: Sink>(
     shelf: &mut H,
     out: &mut O,
 ) -> u8
-    ensures comes { CheckComes image.now cert.now costs.now (H.files shelf.old) (H.load_faults shelf.old) (H.load_faults shelf.new) (written_is (O.written out.old) (O.faults out.old)) (written_is (O.written out.new) (O.faults out.new)) result }
-    ensures files { KeepsFiles (H.files shelf.old) (H.files shelf.new) }
-    ensures load_faults { H.load_faults shelf.old ≤ H.load_faults shelf.new }
-    ensures store_faults { H.store_faults shelf.old ≤ H.store_faults shelf.new }
-    ensures sink_faults { O.faults out.old ≤ O.faults out.new }
+    ensures comes { CheckComes image.now cert.now costs.now (H.told shelf.old).files (H.told shelf.old).load_faults (H.told shelf.new).load_faults (written_is (O.told out.old).written (O.told out.old).faults) (written_is (O.told out.new).written (O.told out.new).faults) result }
+    ensures files { KeepsFiles (H.told shelf.old).files (H.told shelf.new).files }
+    ensures load_faults { (H.told shelf.old).load_faults ≤ (H.told shelf.new).load_faults }
+    ensures store_faults { (H.told shelf.old).store_faults ≤ (H.told shelf.new).store_faults }
+    ensures sink_faults { (O.told out.old).faults ≤ (O.told out.new).faults }
 {
     let verdict = verdict_of(alloc, image, cert, costs, shelf);
     finish_with(verdict.status, verdict.line.bytes(), out)

@@ -7,8 +7,8 @@ use pt_outside::Sink;
 
 /// The end of a call, once its text is written.
 pub fn close<O: Sink>(status: Status, out: &mut O) -> u8
-    ensures answers { Answers status [] (written_is (O.written out.old) (O.faults out.old)) (written_is (O.written out.new) (O.faults out.new)) result }
-    ensures faults { O.faults out.old ≤ O.faults out.new }
+    ensures answers { Answers status [] (written_is (O.told out.old).written (O.told out.old).faults) (written_is (O.told out.new).written (O.told out.new).faults) result }
+    ensures faults { (O.told out.old).faults ≤ (O.told out.new).faults }
 {
     if out.flush().is_err() {
         return 4;
@@ -18,8 +18,8 @@ pub fn close<O: Sink>(status: Status, out: &mut O) -> u8
 
 /// The end of a call that has this line alone to print.
 pub fn finish_with<O: Sink>(status: Status, line: &[u8], out: &mut O) -> u8
-    ensures answers { Answers status line.now (written_is (O.written out.old) (O.faults out.old)) (written_is (O.written out.new) (O.faults out.new)) result }
-    ensures faults { O.faults out.old ≤ O.faults out.new }
+    ensures answers { Answers status line.now (written_is (O.told out.old).written (O.told out.old).faults) (written_is (O.told out.new).written (O.told out.new).faults) result }
+    ensures faults { (O.told out.old).faults ≤ (O.told out.new).faults }
 {
     match out.push(line) {
         Ok(()) => close(status, out),
@@ -29,8 +29,8 @@ pub fn finish_with<O: Sink>(status: Status, line: &[u8], out: &mut O) -> u8
 
 /// The end of a call that has nothing to print but the line of its status.
 pub fn finish<O: Sink>(status: Status, out: &mut O) -> u8
-    ensures answers { Answers status (line_of status) (written_is (O.written out.old) (O.faults out.old)) (written_is (O.written out.new) (O.faults out.new)) result }
-    ensures faults { O.faults out.old ≤ O.faults out.new }
+    ensures answers { Answers status (line_of status) (written_is (O.told out.old).written (O.told out.old).faults) (written_is (O.told out.new).written (O.told out.new).faults) result }
+    ensures faults { (O.told out.old).faults ≤ (O.told out.new).faults }
 {
     finish_with(status, status.line(), out)
 }

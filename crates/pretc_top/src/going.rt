@@ -48,11 +48,11 @@ fn prepare<H: Shelf, I: Source>(
     shelf: &mut H,
     input: &mut I,
 ) -> Result<Ready, Verdict>
-    ensures ready { IfOk result (λ ready. IsReady program.now name.now (outside (H.files shelf.old) (H.load_faults shelf.old) (H.store_faults shelf.old) (I.left input.old) (I.faults input.old)) (outside (H.files shelf.new) (H.load_faults shelf.new) (H.store_faults shelf.new) (I.left input.new) (I.faults input.new)) ready.machine ready.rows ready.outputs.items) }
-    ensures failed { IfErr result (λ verdict. GoEnds verdict.status program.now name.now (outside (H.files shelf.old) (H.load_faults shelf.old) (H.store_faults shelf.old) (I.left input.old) (I.faults input.old)) (outside (H.files shelf.new) (H.load_faults shelf.new) (H.store_faults shelf.new) (I.left input.new) (I.faults input.new)) verdict.line) }
-    ensures load_faults { H.load_faults shelf.old ≤ H.load_faults shelf.new }
-    ensures store_faults { H.store_faults shelf.old ≤ H.store_faults shelf.new }
-    ensures source_faults { I.faults input.old ≤ I.faults input.new }
+    ensures ready { IfOk result (λ ready. IsReady program.now name.now (outside (H.told shelf.old).files (H.told shelf.old).load_faults (H.told shelf.old).store_faults (I.told input.old).left (I.told input.old).faults) (outside (H.told shelf.new).files (H.told shelf.new).load_faults (H.told shelf.new).store_faults (I.told input.new).left (I.told input.new).faults) ready.machine ready.rows ready.outputs.items) }
+    ensures failed { IfErr result (λ verdict. GoEnds verdict.status program.now name.now (outside (H.told shelf.old).files (H.told shelf.old).load_faults (H.told shelf.old).store_faults (I.told input.old).left (I.told input.old).faults) (outside (H.told shelf.new).files (H.told shelf.new).load_faults (H.told shelf.new).store_faults (I.told input.new).left (I.told input.new).faults) verdict.line) }
+    ensures load_faults { (H.told shelf.old).load_faults ≤ (H.told shelf.new).load_faults }
+    ensures store_faults { (H.told shelf.old).store_faults ≤ (H.told shelf.new).store_faults }
+    ensures source_faults { (I.told input.old).faults ≤ (I.told input.new).faults }
 {
     let image = match load_image(alloc, program, shelf) {
         Ok(image) => image,
@@ -83,8 +83,8 @@ fn report<O: Sink>(ready: Ready, out: &mut O) -> u8
     requires outputs { length ready.outputs.items ≡ length ready.machine.image.outputs }
     requires few { length ready.machine.image.outputs ≤ 64 }
     requires ends { NeverTraps ready.machine cycles_most ready.rows }
-    ensures answers { Answers Status.Done (run_text (told_by ready.machine cycles_most ready.rows)) (written_is (O.written out.old) (O.faults out.old)) (written_is (O.written out.new) (O.faults out.new)) result }
-    ensures faults { O.faults out.old ≤ O.faults out.new }
+    ensures answers { Answers Status.Done (run_text (told_by ready.machine cycles_most ready.rows)) (written_is (O.told out.old).written (O.told out.old).faults) (written_is (O.told out.new).written (O.told out.new).faults) result }
+    ensures faults { (O.told out.old).faults ≤ (O.told out.new).faults }
 {
     let mut machine = ready.machine;
     let mut outputs = ready.outputs;
@@ -109,11 +109,11 @@ pub fn go<H: Shelf, I: Source, O: Sink>(
     input: &mut I,
     out: &mut O,
 ) -> u8
-    ensures comes { GoComes program.now name.now (outside (H.files shelf.old) (H.load_faults shelf.old) (H.store_faults shelf.old) (I.left input.old) (I.faults input.old)) (outside (H.files shelf.new) (H.load_faults shelf.new) (H.store_faults shelf.new) (I.left input.new) (I.faults input.new)) (written_is (O.written out.old) (O.faults out.old)) (written_is (O.written out.new) (O.faults out.new)) result }
-    ensures load_faults { H.load_faults shelf.old ≤ H.load_faults shelf.new }
-    ensures store_faults { H.store_faults shelf.old ≤ H.store_faults shelf.new }
-    ensures source_faults { I.faults input.old ≤ I.faults input.new }
-    ensures sink_faults { O.faults out.old ≤ O.faults out.new }
+    ensures comes { GoComes program.now name.now (outside (H.told shelf.old).files (H.told shelf.old).load_faults (H.told shelf.old).store_faults (I.told input.old).left (I.told input.old).faults) (outside (H.told shelf.new).files (H.told shelf.new).load_faults (H.told shelf.new).store_faults (I.told input.new).left (I.told input.new).faults) (written_is (O.told out.old).written (O.told out.old).faults) (written_is (O.told out.new).written (O.told out.new).faults) result }
+    ensures load_faults { (H.told shelf.old).load_faults ≤ (H.told shelf.new).load_faults }
+    ensures store_faults { (H.told shelf.old).store_faults ≤ (H.told shelf.new).store_faults }
+    ensures source_faults { (I.told input.old).faults ≤ (I.told input.new).faults }
+    ensures sink_faults { (O.told out.old).faults ≤ (O.told out.new).faults }
 {
     match prepare(alloc, program, name, shelf, input) {
         Ok(ready) => report(ready, out),

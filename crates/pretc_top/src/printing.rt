@@ -2,7 +2,7 @@ ghost use Rattle.std.specs.Prelude.{◌≡◌, ◌<◌, ◌≤◌, ◌+◌, leng
 ghost use Rattle.std.specs.Io.KnownBytes.{Appends};
 ghost use Rattle.pt_outside.specs.Files.{AppendsFront};
 ghost use Rattle.pt_outside.specs.Files.{KeepsFiles};
-ghost use Rattle.pt_outside.specs.Counts.{HasCause};
+ghost use Rattle.pretc_top.specs.Reported.{HasFault};
 ghost use Rattle.pc_source.specs.Sources.{Breaks};
 ghost use Rattle.pretc_top.specs.Go.{Answers, written_is};
 ghost use Rattle.pretc_top.specs.Says.{SaysCase, SaysComes, IsPrinted};
@@ -38,9 +38,9 @@ fn behind(bytes: &[u8], n: usize) -> &[u8]
 
 /// Pushes a text line by line.
 pub fn push_lines<O: Sink>(text: &[u8], out: &mut O) -> Result<(), Failed>
-    ensures whole { OnOk result (Appends (O.written out.old) (O.written out.new) text.now) }
-    ensures front { OnErr result (AppendsFront (O.written out.old) (O.written out.new) text.now) }
-    ensures cause { HasCause (O.faults out.old) (O.faults out.new) result }
+    ensures whole { OnOk result (Appends (O.told out.old).written (O.told out.new).written text.now) }
+    ensures front { OnErr result (AppendsFront (O.told out.old).written (O.told out.new).written text.now) }
+    ensures cause { HasFault (O.told out.old).faults (O.told out.new).faults result }
 {
     let mut rest = text;
     'lines: while 0 < rest.len() {
@@ -56,11 +56,11 @@ pub fn push_lines<O: Sink>(text: &[u8], out: &mut O) -> Result<(), Failed>
 
 // The text of a loaded program.
 fn printed<H: Shelf>(alloc: Global, program: &Text, shelf: &mut H) -> Result<Text, Verdict>
-    ensures printed { IfOk result (λ text. SaysCase Breaks IsPrinted Status.Done program.now (H.files shelf.old) (H.load_faults shelf.old) (H.load_faults shelf.new) text) }
-    ensures failed { IfErr result (λ verdict. SaysCase Breaks IsPrinted verdict.status program.now (H.files shelf.old) (H.load_faults shelf.old) (H.load_faults shelf.new) verdict.line) }
-    ensures files { KeepsFiles (H.files shelf.old) (H.files shelf.new) }
-    ensures load_faults { H.load_faults shelf.old ≤ H.load_faults shelf.new }
-    ensures store_faults { H.store_faults shelf.old ≤ H.store_faults shelf.new }
+    ensures printed { IfOk result (λ text. SaysCase Breaks IsPrinted Status.Done program.now (H.told shelf.old).files (H.told shelf.old).load_faults (H.told shelf.new).load_faults text) }
+    ensures failed { IfErr result (λ verdict. SaysCase Breaks IsPrinted verdict.status program.now (H.told shelf.old).files (H.told shelf.old).load_faults (H.told shelf.new).load_faults verdict.line) }
+    ensures files { KeepsFiles (H.told shelf.old).files (H.told shelf.new).files }
+    ensures load_faults { (H.told shelf.old).load_faults ≤ (H.told shelf.new).load_faults }
+    ensures store_faults { (H.told shelf.old).store_faults ≤ (H.told shelf.new).store_faults }
 {
     let tree = match load_program(alloc, program, shelf) {
         Ok(tree) => tree,
@@ -74,8 +74,8 @@ fn printed<H: Shelf>(alloc: Global, program: &Text, shelf: &mut H) -> Result<Tex
 
 // The end of a call that has this text to print, line by line.
 fn finish_lines<O: Sink>(text: &[u8], out: &mut O) -> u8
-    ensures answers { Answers Status.Done text.now (written_is (O.written out.old) (O.faults out.old)) (written_is (O.written out.new) (O.faults out.new)) result }
-    ensures faults { O.faults out.old ≤ O.faults out.new }
+    ensures answers { Answers Status.Done text.now (written_is (O.told out.old).written (O.told out.old).faults) (written_is (O.told out.new).written (O.told out.new).faults) result }
+    ensures faults { (O.told out.old).faults ≤ (O.told out.new).faults }
 {
     match push_lines(text, out) {
         Ok(()) => close(Status::Done, out),
@@ -90,11 +90,11 @@ pub fn print_program<H: Shelf, O: Sink>(
     shelf: &mut H,
     out: &mut O,
 ) -> u8
-    ensures comes { SaysComes Breaks IsPrinted program.now (H.files shelf.old) (H.load_faults shelf.old) (H.load_faults shelf.new) (written_is (O.written out.old) (O.faults out.old)) (written_is (O.written out.new) (O.faults out.new)) result }
-    ensures files { KeepsFiles (H.files shelf.old) (H.files shelf.new) }
-    ensures load_faults { H.load_faults shelf.old ≤ H.load_faults shelf.new }
-    ensures store_faults { H.store_faults shelf.old ≤ H.store_faults shelf.new }
-    ensures sink_faults { O.faults out.old ≤ O.faults out.new }
+    ensures comes { SaysComes Breaks IsPrinted program.now (H.told shelf.old).files (H.told shelf.old).load_faults (H.told shelf.new).load_faults (written_is (O.told out.old).written (O.told out.old).faults) (written_is (O.told out.new).written (O.told out.new).faults) result }
+    ensures files { KeepsFiles (H.told shelf.old).files (H.told shelf.new).files }
+    ensures load_faults { (H.told shelf.old).load_faults ≤ (H.told shelf.new).load_faults }
+    ensures store_faults { (H.told shelf.old).store_faults ≤ (H.told shelf.new).store_faults }
+    ensures sink_faults { (O.told out.old).faults ≤ (O.told out.new).faults }
 {
     match printed(alloc, program, shelf) {
         Ok(text) => finish_lines(text.bytes(), out),

@@ -5,7 +5,7 @@ ghost use Rattle.pt_trace.specs.Report.{tick_lines, greatest, run_text};
 ghost use Rattle.pt_outside.specs.Counts.{HasCause};
 ghost use Rattle.mb_core.specs.Machine.{tick_of};
 ghost use Rattle.pretc_top.specs.Told.{Ended};
-ghost use Rattle.pretc_top.specs.Reported.{TickWritten, told_by, NeverTraps};
+ghost use Rattle.pretc_top.specs.Reported.{HasFault, TickWritten, told_by, NeverTraps};
 
 use mb_core::Machine;
 use pt_base::Many;
@@ -25,8 +25,8 @@ fn write_tick<O: Sink>(
     requires outputs { length outputs.old ≡ length machine.old.image.outputs }
     requires few { length machine.old.image.outputs ≤ 64 }
     requires ends { Ended (tick_of machine.old row.now most) }
-    ensures written { TickWritten (tick_of machine.old row.now most) tick machine.old machine.new (O.written out.old) (O.written out.new) result }
-    ensures cause { HasCause (O.faults out.old) (O.faults out.new) result }
+    ensures written { TickWritten (tick_of machine.old row.now most) tick machine.old machine.new (O.told out.old).written (O.told out.new).written result }
+    ensures cause { HasCause (O.told out.old).faults (O.told out.new).faults result }
 {
     let cycles = match machine.tick(row, outputs, most) {
         Ok(cycles) => cycles,
@@ -58,10 +58,10 @@ fn write_ticks<O: Sink>(
     requires outputs { length outputs.old ≡ length machine.old.image.outputs }
     requires few { length machine.old.image.outputs ≤ 64 }
     requires ends { NeverTraps machine.old most rows.now }
-    ensures lines { OnOk result (Appends (O.written out.old) (O.written out.new) (tick_lines 0 (told_by machine.old most rows.now))) }
+    ensures lines { OnOk result (Appends (O.told out.old).written (O.told out.new).written (tick_lines 0 (told_by machine.old most rows.now))) }
     ensures worst { IfOk result (λ worst. worst ≡ greatest (told_by machine.old most rows.now)) }
-    ensures front { OnErr result ((more : List ℕ) → AppendsFront (O.written out.old) (O.written out.new) (tick_lines 0 (told_by machine.old most rows.now) ++ more)) }
-    ensures cause { HasCause (O.faults out.old) (O.faults out.new) result }
+    ensures front { OnErr result ((more : List ℕ) → AppendsFront (O.told out.old).written (O.told out.new).written (tick_lines 0 (told_by machine.old most rows.now) ++ more)) }
+    ensures cause { HasFault (O.told out.old).faults (O.told out.new).faults result }
 {
     let mut worst = 0;
     for (tick, row) in rows.iter().enumerate() {
@@ -84,9 +84,9 @@ pub fn write_report<O: Sink>(
     requires outputs { length outputs.old ≡ length machine.old.image.outputs }
     requires few { length machine.old.image.outputs ≤ 64 }
     requires ends { NeverTraps machine.old most rows.now }
-    ensures whole { OnOk result (Appends (O.written out.old) (O.written out.new) (run_text (told_by machine.old most rows.now))) }
-    ensures front { OnErr result (AppendsFront (O.written out.old) (O.written out.new) (run_text (told_by machine.old most rows.now))) }
-    ensures cause { HasCause (O.faults out.old) (O.faults out.new) result }
+    ensures whole { OnOk result (Appends (O.told out.old).written (O.told out.new).written (run_text (told_by machine.old most rows.now))) }
+    ensures front { OnErr result (AppendsFront (O.told out.old).written (O.told out.new).written (run_text (told_by machine.old most rows.now))) }
+    ensures cause { HasFault (O.told out.old).faults (O.told out.new).faults result }
 {
     let worst = write_ticks(machine, rows, outputs, most, out)?;
     let mut line = LineBuffer::empty();

@@ -35,10 +35,10 @@ fn counts_line(alloc: Global, typed: &Typed) -> Result<LineBuffer, Memory>
 
 // What the rules say of a loaded program.
 fn ruled<H: Shelf>(alloc: Global, program: &Text, shelf: &mut H) -> Verdict
-    ensures case { SaysCase BreaksFirst IsRuled result.status program.now (H.files shelf.old) (H.load_faults shelf.old) (H.load_faults shelf.new) result.line }
-    ensures files { KeepsFiles (H.files shelf.old) (H.files shelf.new) }
-    ensures load_faults { H.load_faults shelf.old ≤ H.load_faults shelf.new }
-    ensures store_faults { H.store_faults shelf.old ≤ H.store_faults shelf.new }
+    ensures case { SaysCase BreaksFirst IsRuled result.status program.now (H.told shelf.old).files (H.told shelf.old).load_faults (H.told shelf.new).load_faults result.line }
+    ensures files { KeepsFiles (H.told shelf.old).files (H.told shelf.new).files }
+    ensures load_faults { (H.told shelf.old).load_faults ≤ (H.told shelf.new).load_faults }
+    ensures store_faults { (H.told shelf.old).store_faults ≤ (H.told shelf.new).store_faults }
 {
     let accepted = match load_accepted(alloc, program, shelf) {
         Ok(accepted) => accepted,
@@ -60,11 +60,11 @@ pub fn rules_of_program<H: Shelf, O: Sink>(
     shelf: &mut H,
     out: &mut O,
 ) -> u8
-    ensures comes { SaysComes BreaksFirst IsRuled program.now (H.files shelf.old) (H.load_faults shelf.old) (H.load_faults shelf.new) (written_is (O.written out.old) (O.faults out.old)) (written_is (O.written out.new) (O.faults out.new)) result }
-    ensures files { KeepsFiles (H.files shelf.old) (H.files shelf.new) }
-    ensures load_faults { H.load_faults shelf.old ≤ H.load_faults shelf.new }
-    ensures store_faults { H.store_faults shelf.old ≤ H.store_faults shelf.new }
-    ensures sink_faults { O.faults out.old ≤ O.faults out.new }
+    ensures comes { SaysComes BreaksFirst IsRuled program.now (H.told shelf.old).files (H.told shelf.old).load_faults (H.told shelf.new).load_faults (written_is (O.told out.old).written (O.told out.old).faults) (written_is (O.told out.new).written (O.told out.new).faults) result }
+    ensures files { KeepsFiles (H.told shelf.old).files (H.told shelf.new).files }
+    ensures load_faults { (H.told shelf.old).load_faults ≤ (H.told shelf.new).load_faults }
+    ensures store_faults { (H.told shelf.old).store_faults ≤ (H.told shelf.new).store_faults }
+    ensures sink_faults { (O.told out.old).faults ≤ (O.told out.new).faults }
 {
     let verdict = ruled(alloc, program, shelf);
     finish_with(verdict.status, verdict.line.bytes(), out)

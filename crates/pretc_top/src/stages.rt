@@ -32,11 +32,11 @@ pub fn load_text<H: Shelf>(
     most: u64,
     shelf: &mut H,
 ) -> Result<Text, Status>
-    ensures held { IfOk result (λ text. Holds (H.files shelf.old) name.now most text) }
-    ensures failed { IfErr result (λ status. FileFails status name.now (H.files shelf.old) (H.load_faults shelf.old) (H.load_faults shelf.new)) }
-    ensures files { KeepsFiles (H.files shelf.old) (H.files shelf.new) }
-    ensures load_faults { H.load_faults shelf.old ≤ H.load_faults shelf.new }
-    ensures store_faults { H.store_faults shelf.old ≤ H.store_faults shelf.new }
+    ensures held { IfOk result (λ text. Holds (H.told shelf.old).files name.now most text) }
+    ensures failed { IfErr result (λ status. FileFails status name.now (H.told shelf.old).files (H.told shelf.old).load_faults (H.told shelf.new).load_faults) }
+    ensures files { KeepsFiles (H.told shelf.old).files (H.told shelf.new).files }
+    ensures load_faults { (H.told shelf.old).load_faults ≤ (H.told shelf.new).load_faults }
+    ensures store_faults { (H.told shelf.old).store_faults ≤ (H.told shelf.new).store_faults }
 {
     match shelf.load(alloc, name, most) {
         Ok(text) => Ok(text),
@@ -48,11 +48,11 @@ pub fn load_text<H: Shelf>(
 
 /// Loads a program and reads its tokens and its grammar.
 pub fn load_program<H: Shelf>(alloc: Global, name: &Text, shelf: &mut H) -> Result<Program, Verdict>
-    ensures loaded { IfOk result (λ tree. IsLoaded name.now (H.files shelf.old) tree) }
-    ensures failed { IfErr result (λ verdict. ProgramFails Breaks verdict.status name.now (H.files shelf.old) (H.load_faults shelf.old) (H.load_faults shelf.new) verdict.line) }
-    ensures files { KeepsFiles (H.files shelf.old) (H.files shelf.new) }
-    ensures load_faults { H.load_faults shelf.old ≤ H.load_faults shelf.new }
-    ensures store_faults { H.store_faults shelf.old ≤ H.store_faults shelf.new }
+    ensures loaded { IfOk result (λ tree. IsLoaded name.now (H.told shelf.old).files tree) }
+    ensures failed { IfErr result (λ verdict. ProgramFails Breaks verdict.status name.now (H.told shelf.old).files (H.told shelf.old).load_faults (H.told shelf.new).load_faults verdict.line) }
+    ensures files { KeepsFiles (H.told shelf.old).files (H.told shelf.new).files }
+    ensures load_faults { (H.told shelf.old).load_faults ≤ (H.told shelf.new).load_faults }
+    ensures store_faults { (H.told shelf.old).store_faults ≤ (H.told shelf.new).store_faults }
 {
     let text = match load_text(alloc, name, SOURCE_MOST, shelf) {
         Ok(text) => text,
@@ -73,11 +73,11 @@ pub fn load_accepted<H: Shelf>(
     name: &Text,
     shelf: &mut H,
 ) -> Result<Accepted, Verdict>
-    ensures taken { IfOk result (λ accepted. IsTaken name.now (H.files shelf.old) accepted.program accepted.typed) }
-    ensures failed { IfErr result (λ verdict. ProgramFails BreaksFirst verdict.status name.now (H.files shelf.old) (H.load_faults shelf.old) (H.load_faults shelf.new) verdict.line) }
-    ensures files { KeepsFiles (H.files shelf.old) (H.files shelf.new) }
-    ensures load_faults { H.load_faults shelf.old ≤ H.load_faults shelf.new }
-    ensures store_faults { H.store_faults shelf.old ≤ H.store_faults shelf.new }
+    ensures taken { IfOk result (λ accepted. IsTaken name.now (H.told shelf.old).files accepted.program accepted.typed) }
+    ensures failed { IfErr result (λ verdict. ProgramFails BreaksFirst verdict.status name.now (H.told shelf.old).files (H.told shelf.old).load_faults (H.told shelf.new).load_faults verdict.line) }
+    ensures files { KeepsFiles (H.told shelf.old).files (H.told shelf.new).files }
+    ensures load_faults { (H.told shelf.old).load_faults ≤ (H.told shelf.new).load_faults }
+    ensures store_faults { (H.told shelf.old).store_faults ≤ (H.told shelf.new).store_faults }
 {
     let text = match load_text(alloc, name, SOURCE_MOST, shelf) {
         Ok(text) => text,
@@ -94,11 +94,11 @@ pub fn load_accepted<H: Shelf>(
 
 /// Loads a program that keeps every rule, and compiles it.
 pub fn load_image<H: Shelf>(alloc: Global, program: &Text, shelf: &mut H) -> Result<Image, Verdict>
-    ensures built { IfOk result (λ image. IsBuilt program.now image (H.files shelf.old)) }
-    ensures failed { IfErr result (λ verdict. BuildFails verdict.status program.now (H.files shelf.old) (H.load_faults shelf.old) (H.load_faults shelf.new) verdict.line) }
-    ensures files { KeepsFiles (H.files shelf.old) (H.files shelf.new) }
-    ensures load_faults { H.load_faults shelf.old ≤ H.load_faults shelf.new }
-    ensures store_faults { H.store_faults shelf.old ≤ H.store_faults shelf.new }
+    ensures built { IfOk result (λ image. IsBuilt program.now image (H.told shelf.old).files) }
+    ensures failed { IfErr result (λ verdict. BuildFails verdict.status program.now (H.told shelf.old).files (H.told shelf.old).load_faults (H.told shelf.new).load_faults verdict.line) }
+    ensures files { KeepsFiles (H.told shelf.old).files (H.told shelf.new).files }
+    ensures load_faults { (H.told shelf.old).load_faults ≤ (H.told shelf.new).load_faults }
+    ensures store_faults { (H.told shelf.old).store_faults ≤ (H.told shelf.new).store_faults }
 {
     let accepted = match load_accepted(alloc, program, shelf) {
         Ok(accepted) => accepted,
@@ -118,10 +118,10 @@ pub fn store_image<H: Shelf>(
     image: &Image,
     shelf: &mut H,
 ) -> Result<(), Status>
-    ensures stored { OnOk result (Stores (H.files shelf.old) (H.files shelf.new) name.now (text_of image.now)) }
-    ensures failed { IfErr result (λ status. StoreFails status name.now (text_of image.now) (H.files shelf.old) (H.files shelf.new) (H.store_faults shelf.old) (H.store_faults shelf.new)) }
-    ensures load_faults { H.load_faults shelf.old ≤ H.load_faults shelf.new }
-    ensures store_faults { H.store_faults shelf.old ≤ H.store_faults shelf.new }
+    ensures stored { OnOk result (Stores (H.told shelf.old).files (H.told shelf.new).files name.now (text_of image.now)) }
+    ensures failed { IfErr result (λ status. StoreFails status name.now (text_of image.now) (H.told shelf.old).files (H.told shelf.new).files (H.told shelf.old).store_faults (H.told shelf.new).store_faults) }
+    ensures load_faults { (H.told shelf.old).load_faults ≤ (H.told shelf.new).load_faults }
+    ensures store_faults { (H.told shelf.old).store_faults ≤ (H.told shelf.new).store_faults }
 {
     let text = match image.write(alloc) {
         Ok(text) => text,
@@ -140,9 +140,9 @@ pub fn read_trace<I: Source>(
     width: u32,
     input: &mut I,
 ) -> Result<Many<Many<i32>>, Status>
-    ensures read { IfOk result (λ rows. IsRead width rows (I.left input.old) (I.left input.new)) }
-    ensures failed { IfErr result (λ status. TraceFails status width (I.left input.old) (I.left input.new) (I.faults input.old) (I.faults input.new)) }
-    ensures faults { I.faults input.old ≤ I.faults input.new }
+    ensures read { IfOk result (λ rows. IsRead width rows (I.told input.old).left (I.told input.new).left) }
+    ensures failed { IfErr result (λ status. TraceFails status width (I.told input.old).left (I.told input.new).left (I.told input.old).faults (I.told input.new).faults) }
+    ensures faults { (I.told input.old).faults ≤ (I.told input.new).faults }
 {
     let pulled = match pull_all(alloc, input, TRACE_MOST) {
         Ok(pulled) => pulled,

@@ -1,5 +1,5 @@
 ghost use Rattle.std.specs.Prelude.{◌≡◌, ◌≤◌, Some, None, IfOk, OnOk, IsUtf8, length};
-ghost use Rattle.pt_outside.specs.Counts.{HasCauseAt, CountsAt};
+ghost use Rattle.pt_outside.specs.Counts.{HasLoadCause, HasStoreCause, next, last};
 ghost use Rattle.pt_outside.specs.Files.{KeepsFiles, Holds, Lacks, Stores, Tears};
 
 use pt_base::Text;
@@ -19,11 +19,14 @@ pub struct HostShelf<'a, R: Files> {
 }
 
 impl<'a, R: Files> Model for HostShelf<'a, R> {
-    ghost use Rattle.std.specs.Prelude.{ℕ};
+    ghost use Rattle.std.specs.Prelude.{ℕ, ◌≤◌};
+    ghost use Rattle.pt_outside.specs.Counts.{last};
 
     ghost Value = { ℕ × ℕ };
 
     ghost view = { λ s. (s.load_faults, s.store_faults) };
+
+    ghost invariant = { λ s. (s.load_faults ≤ last) × (s.store_faults ≤ last) };
 }
 
 impl<'a, R: Files> HostShelf<'a, R> {
@@ -85,22 +88,17 @@ fn read_file<R: Files>(alloc: Global, rt: &R, path: &str, most: u64) -> Result<T
 }
 
 impl<'a, R: Files> Shelf for HostShelf<'a, R> {
-    ghost files = { λ _. None };
-
-    ghost load_faults = { λ s. s.0 };
-
-    ghost store_faults = { λ s. s.1 };
+    ghost told = { λ s. record { files = None; load_faults = s.0; store_faults = s.1 } };
 
     fn load(&mut self, alloc: Global, name: &Text, most: u64) -> Result<Text, ShelfFault>
         ensures files { KeepsFiles None None }
         ensures found { IfOk result (λ text. Holds None name.now most text) }
         ensures absent { result ≡ Err ShelfFault.Absent → Lacks None name.now }
-        ensures cause { HasCauseAt ShelfFault.Failed self.old.0 self.new.0 result }
-        ensures store_faults { self.old.1 ≤ self.new.1 }
+        ensures cause { HasLoadCause self.old.0 self.new.0 result }
+        ensures store_faults { self.new.1 ≡ self.old.1 }
         ensures at_most { IfOk result (λ text. length text ≤ most) }
         ensures not_utf8 { ¬ IsUtf8 name.now → result ≡ Err ShelfFault.Failed }
-        ensures counted { CountsAt ShelfFault.Failed self.old.0 self.new.0 result }
-        ensures kept { self.new.1 ≡ self.old.1 }
+        ensures counted { result ≡ Err ShelfFault.Failed → self.new.0 ≡ next self.old.0 }
     {
         let Ok(path) = std::str::from_utf8(name.bytes()) else {
             self.load_faults = self.load_faults.saturating_add(1);
@@ -119,11 +117,10 @@ impl<'a, R: Files> Shelf for HostShelf<'a, R> {
         ensures stored { OnOk result (Stores None None name.now bytes.now) }
         ensures torn { result ≡ Err StoreFault.Failed → Tears None None name.now bytes.now }
         ensures memory { result ≡ Err StoreFault.Memory → KeepsFiles None None }
-        ensures cause { HasCauseAt StoreFault.Failed self.old.1 self.new.1 result }
-        ensures load_faults { self.old.0 ≤ self.new.0 }
+        ensures cause { HasStoreCause self.old.1 self.new.1 result }
+        ensures load_faults { self.new.0 ≡ self.old.0 }
         ensures not_utf8 { ¬ IsUtf8 name.now → result ≡ Err StoreFault.Failed }
-        ensures counted { CountsAt StoreFault.Failed self.old.1 self.new.1 result }
-        ensures kept { self.new.0 ≡ self.old.0 }
+        ensures counted { result ≡ Err StoreFault.Failed → self.new.1 ≡ next self.old.1 }
     {
         let Ok(path) = std::str::from_utf8(name.bytes()) else {
             self.store_faults = self.store_faults.saturating_add(1);

@@ -1,7 +1,7 @@
-ghost use Rattle.std.specs.Prelude.{◌≡◌, None, OnOk, OnErr};
+ghost use Rattle.std.specs.Prelude.{◌≡◌, true, None, OnOk, OnErr};
 ghost use Rattle.std.specs.Io.{ReadsAtMost};
 ghost use Rattle.std.specs.Io.KnownBytes.{Appends, Keeps, ReadConsumes};
-ghost use Rattle.pt_outside.specs.Counts.{HasCause, Counts};
+ghost use Rattle.pt_outside.specs.Counts.{HasCause, Counts, next};
 ghost use Rattle.pt_outside.specs.Files.{AppendsFront};
 
 use pt_outside::{Failed, Sink, Source};
@@ -16,11 +16,14 @@ pub struct HostSource<R: Read + Drop> {
 }
 
 impl<R: Read + Drop> Model for HostSource<R> {
-    ghost use Rattle.std.specs.Prelude.{ℕ};
+    ghost use Rattle.std.specs.Prelude.{ℕ, ◌≤◌};
+    ghost use Rattle.pt_outside.specs.Counts.{last};
 
     ghost Value = { ℕ };
 
     ghost view = { λ s. s.faults };
+
+    ghost invariant = { λ s. s.faults ≤ last };
 }
 
 impl<R: Read + Drop> HostSource<R> {
@@ -33,9 +36,7 @@ impl<R: Read + Drop> HostSource<R> {
 }
 
 impl<R: Read + Drop> Source for HostSource<R> {
-    ghost left = { λ _. None };
-
-    ghost faults = { λ s. s };
+    ghost told = { λ s. record { left = None; faults = s } };
 
     fn pull(&mut self, into: &mut [u8]) -> Result<usize, Failed>
         ensures bound { ReadsAtMost result into.new }
@@ -53,43 +54,58 @@ impl<R: Read + Drop> Source for HostSource<R> {
     }
 }
 
-/// A sink over a writer. It doesn't tell what was written.
+/// A sink over a writer. It doesn't tell what was written, but in how many pushes, and whether some of it
+/// waits for a flush.
 #[derive(Drop)]
 pub struct HostSink<W: Write + Drop> {
     inner: W,
+    pushes: u64,
+    sent: bool,
     faults: u64,
 }
 
 impl<W: Write + Drop> Model for HostSink<W> {
-    ghost use Rattle.std.specs.Prelude.{ℕ};
+    ghost use Rattle.std.specs.Prelude.{◌≤◌};
+    ghost use Rattle.pt_outside.specs.Counts.{last};
+    ghost use Rattle.pt_host.specs.Sent.{Sent};
 
-    ghost Value = { ℕ };
+    ghost Value = { Sent };
 
-    ghost view = { λ s. s.faults };
+    ghost view = { λ s. record { pushes = s.pushes; sent = s.sent; faults = s.faults } };
+
+    ghost invariant = { λ s. s.faults ≤ last };
 }
 
 impl<W: Write + Drop> HostSink<W> {
-    /// A sink over this writer, with no fault so far.
+    /// A sink over this writer, with no push and no fault so far.
     pub fn over(inner: W) -> Self
-        ensures { result ≡ 0 }
+        ensures { result ≡ record { pushes = 0; sent = true; faults = 0 } }
     {
-        HostSink { inner, faults: 0 }
+        HostSink {
+            inner,
+            pushes: 0,
+            sent: true,
+            faults: 0,
+        }
     }
 }
 
 impl<W: Write + Drop> Sink for HostSink<W> {
-    ghost written = { λ _. None };
-
-    ghost faults = { λ s. s };
+    ghost told = { λ s. record { written = None; pushes = s.pushes; sent = s.sent; faults = s.faults } };
 
     fn push(&mut self, bytes: &[u8]) -> Result<(), Failed>
         ensures ok { OnOk result (Appends None None bytes.now) }
         ensures err { OnErr result (AppendsFront None None bytes.now) }
-        ensures cause { HasCause self.old self.new result }
-        ensures counted { Counts self.old self.new result }
+        ensures pushes { OnOk result (self.new.pushes ≡ next self.old.pushes) }
+        ensures cause { HasCause self.old.faults self.new.faults result }
+        ensures counted { Counts self.old.faults self.new.faults result }
     {
         match self.inner.write_all(bytes) {
-            Ok(()) => Ok(()),
+            Ok(()) => {
+                self.pushes = self.pushes.saturating_add(1);
+                self.sent = false;
+                Ok(())
+            }
             Err(_) => {
                 self.faults = self.faults.saturating_add(1);
                 Err(Failed)
@@ -99,11 +115,16 @@ impl<W: Write + Drop> Sink for HostSink<W> {
 
     fn flush(&mut self) -> Result<(), Failed>
         ensures written { Keeps None None }
-        ensures cause { HasCause self.old self.new result }
-        ensures counted { Counts self.old self.new result }
+        ensures pushes { self.new.pushes ≡ self.old.pushes }
+        ensures sent { OnOk result (self.new.sent ≡ true) }
+        ensures cause { HasCause self.old.faults self.new.faults result }
+        ensures counted { Counts self.old.faults self.new.faults result }
     {
         match self.inner.flush() {
-            Ok(()) => Ok(()),
+            Ok(()) => {
+                self.sent = true;
+                Ok(())
+            }
             Err(_) => {
                 self.faults = self.faults.saturating_add(1);
                 Err(Failed)

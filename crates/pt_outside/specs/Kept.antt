@@ -1,5 +1,5 @@
 -- What a shelf, a source and a sink in memory keep. Their calls are numbered from 0, and `fails` lists those that are to fail.
-use Rattle.std.specs.Prelude.{ℕ, List, [], Option, Some, None, refl}
+use Rattle.std.specs.Prelude.{ℕ, Bool, List, [], Option, Some, None, refl}
 use Rattle.std.specs.declared.vec.Vec.{Vec}
 use Rattle.std.specs.Coded.{Coded, code_by, coded×, coded_ℕ, coded_list}
 use Rattle.std.specs.FinMap.{code}
@@ -17,6 +17,8 @@ pub record Flow : Type 0 where
 pub record Drained : Type 0 where
   pub written : List ℕ
   pub room : ℕ
+  pub pushes : ℕ
+  pub sent : Bool
   pub fails : List ℕ
   pub calls : ℕ
   pub faults : ℕ

@@ -3,7 +3,7 @@ ghost use Rattle.std.specs.Option.{option_copied};
 ghost use Rattle.std.specs.FinMap.{from_entries, get, find, insert};
 ghost use Rattle.std.specs.Ordering.{nat_cmp};
 ghost use Rattle.std.specs.Cmp.Lexicographic.{slice_cmp};
-ghost use Rattle.pt_outside.specs.Counts.{HasCauseAt, CountsAt, Rose, next};
+ghost use Rattle.pt_outside.specs.Counts.{HasLoadCause, HasStoreCause, Counts, Rose, next, last};
 ghost use Rattle.pt_outside.specs.Kept.{entries_of};
 ghost use Rattle.pt_outside.specs.Files.{Files, HaveDistinctNames, KeepsFiles, Stores, Tears, Holds, Lacks};
 
@@ -25,8 +25,9 @@ pub struct MemShelf {
 }
 
 impl Model for MemShelf {
-    ghost use Rattle.std.specs.Prelude.{◌++◌};
+    ghost use Rattle.std.specs.Prelude.{◌++◌, ◌≤◌};
     ghost use Rattle.std.specs.FinMap.{from_entries};
+    ghost use Rattle.pt_outside.specs.Counts.{last};
     ghost use Rattle.pt_outside.specs.Kept.{Shelved, shelved_code, entries_of};
 
     ghost Value = { Shelved };
@@ -34,6 +35,8 @@ impl Model for MemShelf {
     ghost coded = { shelved_code };
 
     ghost view = { λ s. record { files = from_entries (entries_of s.stored ++ s.first); fails = s.fails; calls = s.calls; load_faults = s.load_faults; store_faults = s.store_faults } };
+
+    ghost invariant = { λ s. (s.load_faults ≤ last) × (s.store_faults ≤ last) };
 }
 
 // The first file of this name.
@@ -136,6 +139,7 @@ impl MemShelf {
     fn is_listed(&mut self) -> bool
         ensures listed { IsTrue result ↔ Contains self.old.fails self.old.calls }
         ensures noted { self.new ≡ record self.old { calls = next self.old.calls } }
+        ensures within { (self.new.load_faults ≤ last) × (self.new.store_faults ≤ last) }
     {
         let call = self.calls;
         self.calls = call.saturating_add(1);
@@ -145,6 +149,7 @@ impl MemShelf {
     fn fail_load(&mut self)
         ensures noted { self.new ≡ record self.old { load_faults = next self.old.load_faults } }
         ensures later { self.old.load_faults ≤ self.new.load_faults }
+        ensures within { self.new.load_faults ≤ last }
         ensures rose { Rose self.old.load_faults self.new.load_faults }
     {
         self.load_faults = self.load_faults.saturating_add(1);
@@ -153,6 +158,7 @@ impl MemShelf {
     fn fail_store(&mut self)
         ensures noted { self.new ≡ record self.old { store_faults = next self.old.store_faults } }
         ensures later { self.old.store_faults ≤ self.new.store_faults }
+        ensures within { self.new.store_faults ≤ last }
         ensures rose { Rose self.old.store_faults self.new.store_faults }
     {
         self.store_faults = self.store_faults.saturating_add(1);
@@ -170,21 +176,17 @@ impl MemShelf {
 }
 
 impl Shelf for MemShelf {
-    ghost files = { λ s. Some s.files };
-
-    ghost load_faults = { λ s. s.load_faults };
-
-    ghost store_faults = { λ s. s.store_faults };
+    ghost told = { λ s. record { files = Some s.files; load_faults = s.load_faults; store_faults = s.store_faults } };
 
     fn load(&mut self, alloc: Global, name: &Text, most: u64) -> Result<Text, ShelfFault>
         ensures files { KeepsFiles (Some self.old.files) (Some self.new.files) }
         ensures found { IfOk result (λ text. Holds (Some self.old.files) name.now most text) }
         ensures absent { result ≡ Err ShelfFault.Absent → Lacks (Some self.old.files) name.now }
-        ensures cause { HasCauseAt ShelfFault.Failed self.old.load_faults self.new.load_faults result }
-        ensures store_faults { self.old.store_faults ≤ self.new.store_faults }
+        ensures cause { HasLoadCause self.old.load_faults self.new.load_faults result }
+        ensures store_faults { self.new.store_faults ≡ self.old.store_faults }
         ensures failed_exactly { (result ≡ Err ShelfFault.Failed) ↔ Contains self.old.fails self.old.calls }
         ensures absent_exactly { (result ≡ Err ShelfFault.Absent) ↔ ((get self.old.files name.now ≡ None) × (¬ Contains self.old.fails self.old.calls)) }
-        ensures counted { CountsAt ShelfFault.Failed self.old.load_faults self.new.load_faults result }
+        ensures counted { result ≡ Err ShelfFault.Failed → self.new.load_faults ≡ next self.old.load_faults }
         ensures kept { self.new ≡ record self.old { calls = next self.old.calls; load_faults = self.new.load_faults } }
     {
         if self.is_listed() {
@@ -204,10 +206,10 @@ impl Shelf for MemShelf {
         ensures stored { OnOk result (Stores (Some self.old.files) (Some self.new.files) name.now bytes.now) }
         ensures torn { result ≡ Err StoreFault.Failed → Tears (Some self.old.files) (Some self.new.files) name.now bytes.now }
         ensures memory { result ≡ Err StoreFault.Memory → KeepsFiles (Some self.old.files) (Some self.new.files) }
-        ensures cause { HasCauseAt StoreFault.Failed self.old.store_faults self.new.store_faults result }
-        ensures load_faults { self.old.load_faults ≤ self.new.load_faults }
+        ensures cause { HasStoreCause self.old.store_faults self.new.store_faults result }
+        ensures load_faults { self.new.load_faults ≡ self.old.load_faults }
         ensures failed_exactly { (result ≡ Err StoreFault.Failed) ↔ Contains self.old.fails self.old.calls }
-        ensures counted { CountsAt StoreFault.Failed self.old.store_faults self.new.store_faults result }
+        ensures counted { result ≡ Err StoreFault.Failed → self.new.store_faults ≡ next self.old.store_faults }
         ensures kept { self.new ≡ record self.old { files = self.new.files; calls = next self.old.calls; store_faults = self.new.store_faults } }
     {
         if self.is_listed() {

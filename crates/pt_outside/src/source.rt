@@ -76,9 +76,7 @@ impl MemSource {
 }
 
 impl Source for MemSource {
-    ghost left = { λ s. Some s.left };
-
-    ghost faults = { λ s. s.faults };
+    ghost told = { λ s. record { left = Some s.left; faults = s.faults } };
 
     fn pull(&mut self, into: &mut [u8]) -> Result<usize, Failed>
         ensures bound { ReadsAtMost result into.new }
@@ -135,9 +133,7 @@ impl FirmSource {
 }
 
 impl Source for FirmSource {
-    ghost left = { λ s. Some s };
-
-    ghost faults = { λ _. 0 };
+    ghost told = { λ s. record { left = Some s; faults = 0 } };
 
     fn pull(&mut self, into: &mut [u8]) -> Result<usize, Failed>
         ensures bound { ReadsAtMost result into.new }

@@ -1,8 +1,9 @@
-ghost use Rattle.std.specs.Prelude.{◌≡◌, ◌≤◌, List, ℕ, Option, OnOk, OnErr, IfOk};
+ghost use Rattle.std.specs.Prelude.{◌≡◌, true, OnOk, OnErr, IfOk};
 ghost use Rattle.std.specs.Io.{ReadsAtMost};
 ghost use Rattle.std.specs.Io.KnownBytes.{Appends, Keeps, ReadConsumes};
-ghost use Rattle.pt_outside.specs.Counts.{HasCause, HasCauseAt};
-ghost use Rattle.pt_outside.specs.Files.{Files, KeepsFiles, Stores, Tears, Holds, Lacks, AppendsFront};
+ghost use Rattle.pt_outside.specs.Counts.{HasCause, HasLoadCause, HasStoreCause, next};
+ghost use Rattle.pt_outside.specs.Told.{ShelfTold, SourceTold, SinkTold};
+ghost use Rattle.pt_outside.specs.Files.{KeepsFiles, Stores, Tears, Holds, Lacks, AppendsFront};
 
 use pt_base::Text;
 use std::alloc::Global;
@@ -31,69 +32,69 @@ pub enum StoreFault {
     Memory,
 }
 
-/// Files by their names. `files` is what it holds, where it tells that; the two counts of faults never fall.
+/// Files by their names. It may tell what it holds, and tells two counts of faults, which never fall and end at
+/// 18446744073709551615.
 pub trait Shelf {
-    ghost files: { Self → Option Files };
-
-    ghost load_faults: { Self → ℕ };
-
-    ghost store_faults: { Self → ℕ };
+    ghost told: { Self → ShelfTold };
 
     /// The first `most` bytes of a file, all of it where it is shorter.
     ///
     /// `Absent` comes only where there is no file of that name, `Failed` only where the count of loads that
-    /// failed rose.
+    /// failed rose, and with every other answer both counts stay.
     fn load(&mut self, alloc: Global, name: &Text, most: u64) -> Result<Text, ShelfFault>
-        ensures files { KeepsFiles (files self.old) (files self.new) }
-        ensures found { IfOk result (λ text. Holds (files self.old) name.now most text) }
-        ensures absent { result ≡ Err ShelfFault.Absent → Lacks (files self.old) name.now }
-        ensures cause { HasCauseAt ShelfFault.Failed (load_faults self.old) (load_faults self.new) result }
-        ensures store_faults { store_faults self.old ≤ store_faults self.new };
+        ensures files { KeepsFiles (told self.old).files (told self.new).files }
+        ensures found { IfOk result (λ text. Holds (told self.old).files name.now most text) }
+        ensures absent { result ≡ Err ShelfFault.Absent → Lacks (told self.old).files name.now }
+        ensures cause { HasLoadCause (told self.old).load_faults (told self.new).load_faults result }
+        ensures store_faults { (told self.new).store_faults ≡ (told self.old).store_faults };
 
     /// Makes the file of this name hold exactly these bytes.
     ///
     /// `Failed` comes only where the count of stores that failed rose; the other files then stay, and this
-    /// name holds what it held or a front of the bytes. After `Memory` nothing has changed.
+    /// name holds what it held or a front of the bytes. After `Memory` nothing has changed. With every other
+    /// answer both counts stay.
     fn store(&mut self, alloc: Global, name: &Text, bytes: &Text) -> Result<(), StoreFault>
-        ensures stored { OnOk result (Stores (files self.old) (files self.new) name.now bytes.now) }
-        ensures torn { result ≡ Err StoreFault.Failed → Tears (files self.old) (files self.new) name.now bytes.now }
-        ensures memory { result ≡ Err StoreFault.Memory → KeepsFiles (files self.old) (files self.new) }
-        ensures cause { HasCauseAt StoreFault.Failed (store_faults self.old) (store_faults self.new) result }
-        ensures load_faults { load_faults self.old ≤ load_faults self.new };
+        ensures stored { OnOk result (Stores (told self.old).files (told self.new).files name.now bytes.now) }
+        ensures torn { result ≡ Err StoreFault.Failed → Tears (told self.old).files (told self.new).files name.now bytes.now }
+        ensures memory { result ≡ Err StoreFault.Memory → KeepsFiles (told self.old).files (told self.new).files }
+        ensures cause { HasStoreCause (told self.old).store_faults (told self.new).store_faults result }
+        ensures load_faults { (told self.new).load_faults ≡ (told self.old).load_faults };
 }
 
-/// Bytes that come. `left` is what is still to come, where it tells that; the count of faults never falls.
+/// Bytes that come. It may tell what is still to come, and tells a count of faults, which never falls and ends at
+/// 18446744073709551615.
 pub trait Source {
-    ghost left: { Self → Option (List ℕ) };
-
-    ghost faults: { Self → ℕ };
+    ghost told: { Self → SourceTold };
 
     /// Moves the first bytes that are left into the front of the buffer, and gives their number.
     ///
     /// 0 for a buffer that isn't empty is the end of the input. `Failed` comes only where the count of
-    /// faults rose, and nothing is then taken.
+    /// faults rose, and nothing is then taken; else the count stays.
     fn pull(&mut self, into: &mut [u8]) -> Result<usize, Failed>
         ensures bound { ReadsAtMost result into.new }
-        ensures bytes { ReadConsumes (left self.old) (left self.new) result into.new }
-        ensures cause { HasCause (faults self.old) (faults self.new) result };
+        ensures bytes { ReadConsumes (told self.old).left (told self.new).left result into.new }
+        ensures cause { HasCause (told self.old).faults (told self.new).faults result };
 }
 
-/// Bytes that go. `written` is what was pushed so far, where it tells that; the count of faults never falls.
+/// Bytes that go. It may tell what was pushed so far, and tells in how many pushes, whether none of it waits for a
+/// flush, and a count of faults. The counts never fall and end at 18446744073709551615.
 pub trait Sink {
-    ghost written: { Self → Option (List ℕ) };
-
-    ghost faults: { Self → ℕ };
+    ghost told: { Self → SinkTold };
 
     /// Takes all of the bytes.
     ///
-    /// `Failed` comes only where the count of faults rose; a front of the bytes was then taken.
+    /// `Failed` comes only where the count of faults rose; a front of the bytes was then taken. Else the count
+    /// stays.
     fn push(&mut self, bytes: &[u8]) -> Result<(), Failed>
-        ensures ok { OnOk result (Appends (written self.old) (written self.new) bytes.now) }
-        ensures err { OnErr result (AppendsFront (written self.old) (written self.new) bytes.now) }
-        ensures cause { HasCause (faults self.old) (faults self.new) result };
+        ensures ok { OnOk result (Appends (told self.old).written (told self.new).written bytes.now) }
+        ensures err { OnErr result (AppendsFront (told self.old).written (told self.new).written bytes.now) }
+        ensures pushes { OnOk result ((told self.new).pushes ≡ next (told self.old).pushes) }
+        ensures cause { HasCause (told self.old).faults (told self.new).faults result };
 
-    /// Sends on what was pushed. `Failed` comes only where the count of faults rose.
+    /// Sends on what was pushed. `Failed` comes only where the count of faults rose; else it stays.
     fn flush(&mut self) -> Result<(), Failed>
-        ensures written { Keeps (written self.old) (written self.new) }
-        ensures cause { HasCause (faults self.old) (faults self.new) result };
+        ensures written { Keeps (told self.old).written (told self.new).written }
+        ensures pushes { (told self.new).pushes ≡ (told self.old).pushes }
+        ensures sent { OnOk result ((told self.new).sent ≡ true) }
+        ensures cause { HasCause (told self.old).faults (told self.new).faults result };
 }

@@ -1,3 +1,7 @@
+pub mod Answering
 pub mod Cutting
-pub mod Decimals
-pub mod Scanning
+mod Decimals
+mod Keeping
+pub mod Chaining
+mod Scanning
+mod CutLine

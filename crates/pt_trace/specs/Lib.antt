@@ -1,4 +1,3 @@
-pub mod Pulled
 pub mod Report
 pub mod Rows
 pub mod Scan
@@ -6,3 +5,9 @@ pub mod Trace
 pub mod Verdict
 pub mod Accepted
 pub mod Refused
+pub mod Gathering
+pub mod Given
+pub mod Next
+pub mod Pulling
+pub mod Readings
+pub mod Pulled

@@ -1,4 +1,4 @@
--- The line of a refused program: docs/commands.md, "Statuses".
+-- The lines of a refused program, of a bad line of a trace and of a trap: docs/commands.md, "Statuses".
 use Rattle.std.specs.Prelude.{ℕ, List, ◌++◌, codes}
 use Rattle.std.specs.Fmt.{decimal}
 use Rattle.pt_base.specs.declared.Rule.{Rule}
@@ -33,3 +33,11 @@ name_of Z9 = codes "Z9"
 -- the rule that is broken, with the place where it is
 abbrev pub refused_line : Rule → ℕ → ℕ → List ℕ
 refused_line rule from to = codes "refused " ++ name_of rule ++ codes " " ++ decimal from ++ codes " " ++ decimal to ++ codes "\n"
+
+-- the rule that refuses the first bad line of a trace, as 1 for T1, and that line's number
+abbrev pub trace_line : ℕ → ℕ → List ℕ
+trace_line rule line = codes "trace T" ++ decimal rule ++ codes " line " ++ decimal line ++ codes "\n"
+
+-- the place of the word that loaded or stored outside the memory, and the tick
+abbrev pub trap_line : ℕ → ℕ → List ℕ
+trap_line at tick = codes "trap BadAddress at " ++ decimal at ++ codes " tick " ++ decimal tick ++ codes "\n"

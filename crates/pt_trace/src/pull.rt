@@ -30,15 +30,15 @@ pub struct Pulled {
 /// At `End` the text is all that was left. At `TooLong` it has `most` and one bytes, and at `ReadFault` what
 /// came before the fault.
 pub fn pull_all<I: Source>(alloc: Global, input: &mut I, most: usize) -> Result<Pulled, Memory>
-    ensures pulled { IfOk result (λ p. Consumes (I.left input.old) (I.left input.new) p.text) }
-    ensures all { IfOk result (λ p. p.ending ≡ Ending.End → IsAllOf (I.left input.old) p.text) }
-    ensures ended { IfOk result (λ p. p.ending ≡ Ending.End → IsAtEnd (I.left input.new)) }
+    ensures pulled { IfOk result (λ p. Consumes (I.told input.old).left (I.told input.new).left p.text) }
+    ensures all { IfOk result (λ p. p.ending ≡ Ending.End → IsAllOf (I.told input.old).left p.text) }
+    ensures ended { IfOk result (λ p. p.ending ≡ Ending.End → IsAtEnd (I.told input.new).left) }
     ensures fits { IfOk result (λ p. p.ending ≡ Ending.End → length p.text ≤ most) }
     ensures too_long { IfOk result (λ p. p.ending ≡ Ending.TooLong → length p.text ≡ most + 1) }
-    ensures longer { IfOk result (λ p. p.ending ≡ Ending.TooLong → IsLonger (I.left input.old) most) }
-    ensures read_fault { IfOk result (λ p. p.ending ≡ Ending.ReadFault → Rose (I.faults input.old) (I.faults input.new)) }
+    ensures longer { IfOk result (λ p. p.ending ≡ Ending.TooLong → IsLonger (I.told input.old).left most) }
+    ensures read_fault { IfOk result (λ p. p.ending ≡ Ending.ReadFault → Rose (I.told input.old).faults (I.told input.new).faults) }
     ensures before_fault { IfOk result (λ p. p.ending ≡ Ending.ReadFault → length p.text ≤ most) }
-    ensures later { I.faults input.old ≤ I.faults input.new }
+    ensures later { (I.told input.old).faults ≤ (I.told input.new).faults }
 {
     let mut bytes = Vec::new(alloc);
     let mut buffer = [0u8; 4096];

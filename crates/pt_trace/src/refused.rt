@@ -1,5 +1,6 @@
 ghost use Rattle.std.specs.Prelude.{◌≡◌, length};
-ghost use Rattle.pt_trace.specs.Refused.{name_of, refused_line};
+ghost use Rattle.pt_trace.specs.Refused as spec;
+ghost use Rattle.pt_trace.specs.Refused.{name_of};
 
 use crate::report::LineBuffer;
 use pt_base::{Rule, Span};
@@ -38,7 +39,7 @@ fn rule_name(rule: Rule) -> &'static [u8]
 
 /// Leaves the line `refused RULE FROM TO` in the buffer. It takes no memory.
 pub fn refused_line(rule: Rule, span: Span, into: &mut LineBuffer)
-    ensures { into.new ≡ refused_line rule span.from span.to }
+    ensures { into.new ≡ spec.refused_line rule span.from span.to }
 {
     into.clear();
     into.push_bytes(b"refused ");
@@ -47,5 +48,29 @@ pub fn refused_line(rule: Rule, span: Span, into: &mut LineBuffer)
     into.push_decimal(u64::from(span.from));
     into.push_bytes(b" ");
     into.push_decimal(u64::from(span.to));
+    into.push_bytes(b"\n");
+}
+
+/// Leaves the line `trace TN line L` in the buffer. It takes no memory.
+pub fn trace_line(rule: u8, line: u64, into: &mut LineBuffer)
+    ensures { into.new ≡ spec.trace_line rule line }
+{
+    into.clear();
+    into.push_bytes(b"trace T");
+    into.push_decimal(u64::from(rule));
+    into.push_bytes(b" line ");
+    into.push_decimal(line);
+    into.push_bytes(b"\n");
+}
+
+/// Leaves the line `trap BadAddress at ADDRESS tick K` in the buffer. It takes no memory.
+pub fn trap_line(at: u32, tick: u64, into: &mut LineBuffer)
+    ensures { into.new ≡ spec.trap_line at tick }
+{
+    into.clear();
+    into.push_bytes(b"trap BadAddress at ");
+    into.push_decimal(u64::from(at));
+    into.push_bytes(b" tick ");
+    into.push_decimal(tick);
     into.push_bytes(b"\n");
 }

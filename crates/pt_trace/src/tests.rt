@@ -1,95 +1,10 @@
 use crate::{
-    BadLine, Ending, LineBuffer, Rows, bound_line, cert_line, image_line, no_line, pull_all,
-    read_rows, refused_line, report_line, ticks_line, worst_line, yes_line,
+    LineBuffer, TraceFault, TraceReader, bound_line, cert_line, image_line, no_line, refused_line,
+    report_line, ticks_line, worst_line, yes_line,
 };
 use pt_base::{Many, Rule, Span, Text};
 use pt_outside::MemSource;
-use std::alloc::Global;
 use std::test::Fail;
-
-// The count of rows, the last row and the first bad line.
-fn reads(rows: &Rows, count: usize, last: &[i32], bad: Option<(u8, u64)>) -> bool {
-    let same_bad = match (&rows.bad, bad) {
-        (None, None) => true,
-        (Some(found), Some((rule, line))) => *found == BadLine { rule, line },
-        _ => false,
-    };
-    let same_last = match rows.rows.items().last() {
-        None => last.is_empty(),
-        Some(row) => row.items() == last,
-    };
-    same_bad && same_last && rows.rows.items().len() == count
-}
-
-#[test]
-fn lines_and_numbers(rt: HostRuntime) -> Result<(), Fail> {
-    let table: [(&str, u32, usize, &[i32], Option<(u8, u64)>); 24] = [
-        ("", 0, 0, &[], None),
-        ("", 1, 0, &[], None),
-        ("\n", 0, 1, &[], None),
-        (" \t\n\r\n\n", 0, 3, &[], None),
-        ("\n ", 0, 2, &[], None),
-        ("\t4 \r\n5", 1, 2, &[5], None),
-        ("4\n5\n6\n", 1, 3, &[6], None),
-        ("0 10\n0\t20", 2, 2, &[0, 20], None),
-        ("4\r", 1, 0, &[], Some((1, 1))),
-        ("4\r\r\n", 1, 0, &[], Some((1, 1))),
-        ("4\n\n", 1, 1, &[4], Some((2, 2))),
-        ("4 5\n", 1, 0, &[], Some((2, 1))),
-        ("4 5 x\n", 1, 0, &[], Some((1, 1))),
-        (
-            "2147483647 -2147483648\n",
-            2,
-            1,
-            &[2147483647, -2147483648],
-            None,
-        ),
-        ("4\n5\n2147483648\n", 1, 2, &[5], Some((1, 3))),
-        ("-2147483649", 1, 0, &[], Some((1, 1))),
-        ("99999999999999999999999999999999", 1, 0, &[], Some((1, 1))),
-        ("-000000000000000000000000000000012", 1, 1, &[-12], None),
-        ("-0", 1, 1, &[0], None),
-        ("-", 1, 0, &[], Some((1, 1))),
-        ("--1", 1, 0, &[], Some((1, 1))),
-        ("1-", 1, 0, &[], Some((1, 1))),
-        ("+1", 1, 0, &[], Some((1, 1))),
-        ("- 1", 1, 0, &[], Some((1, 1))),
-    ];
-    let alloc = rt.alloc();
-    for (text, width, count, last, bad) in table {
-        let rows = read_rows(alloc, &Text::of(alloc, text.as_bytes())?, width)?;
-        assert!(rt; reads(&rows, count, last, bad), "{text}");
-    }
-    Ok(())
-}
-
-// This many blanks, and then the text.
-fn blanks(alloc: Global, count: usize, after: &[u8]) -> Result<Text, Fail> {
-    let mut bytes = vec![in alloc; b' '; count]?;
-    bytes.extend_from_slice(after)?;
-    Ok(Text::from_vec(bytes))
-}
-
-#[test]
-fn long_lines_and_traces(rt: HostRuntime) -> Result<(), Fail> {
-    let alloc = rt.alloc();
-    let table: [(usize, &[u8], usize, Option<(u8, u64)>); 6] = [
-        (1024, b"\n", 1, None),
-        (1024, b"", 1, None),
-        (1023, b"\r\n", 1, None),
-        (1025, b"\n", 0, Some((4, 1))),
-        (1025, b"", 0, Some((4, 1))),
-        (1024, b"\r\n", 0, Some((4, 1))),
-    ];
-    for (count, after, rows, bad) in table {
-        let found = read_rows(alloc, &blanks(alloc, count, after)?, 0)?;
-        assert!(rt; reads(&found, rows, &[], bad), "{count}");
-    }
-    let bytes = vec![in alloc; b'\n'; 1000001]?;
-    let found = read_rows(alloc, &Text::from_vec(bytes), 0)?;
-    assert!(rt; reads(&found, 1000000, &[], Some((3, 1000001))));
-    Ok(())
-}
 
 #[test]
 fn report_lines(rt: HostRuntime) -> Result<(), Fail> {
@@ -106,27 +21,6 @@ fn report_lines(rt: HostRuntime) -> Result<(), Fail> {
     assert_eq!(rt; line.bytes(), b"bound 1000000000000\n".as_slice());
     ticks_line(0, &mut line);
     assert_eq!(rt; line.bytes(), b"ticks 0\n".as_slice());
-    Ok(())
-}
-
-#[test]
-fn inputs_pulled_whole(rt: HostRuntime) -> Result<(), Fail> {
-    let alloc = rt.alloc();
-    let table: [(usize, u64, usize, Ending); 4] = [
-        (5, 99, 5, Ending::End),
-        (6, 99, 5, Ending::End),
-        (4, 99, 5, Ending::TooLong),
-        (9, 1, 2, Ending::ReadFault),
-    ];
-    for (most, fail, count, ending) in table {
-        let fails = vec![in alloc; fail]?;
-        let mut source = MemSource::of(Text::of(alloc, b"hello")?, 2, Many::of(fails));
-        let pulled = pull_all(alloc, &mut source, most)?;
-        assert!(rt;
-            pulled.ending == ending && pulled.text.bytes().len() == count,
-            "{most}"
-        );
-    }
     Ok(())
 }
 
@@ -165,5 +59,19 @@ fn refusal_lines(rt: HostRuntime) -> Result<(), Fail> {
     };
     refused_line(Rule::Z1, size, &mut line);
     assert_eq!(rt; line.bytes(), b"refused Z1 1048576 1048576\n".as_slice());
+    Ok(())
+}
+
+#[test]
+fn a_line_that_is_refused_is_refused_again(rt: HostRuntime) -> Result<(), Fail> {
+    let alloc = rt.alloc();
+    let text = Text::of(alloc, b"-2147483648\n4\r")?;
+    let mut input = MemSource::of(text, 1, Many::of(Vec::new(alloc)));
+    let mut reader = TraceReader::begin(&mut input, 1);
+    let mut row = [0; 1];
+    let bad = TraceFault::Refused { rule: 1, line: 2 };
+    assert!(rt; reader.next(&mut input, &mut row) == Ok(true) && row[0] == -2147483648);
+    assert!(rt; reader.next(&mut input, &mut row) == Err(bad));
+    assert!(rt; reader.next(&mut input, &mut row) == Err(bad));
     Ok(())
 }

@@ -11,9 +11,9 @@ returns-in-Some-Check-clause-comes g c =
     let P : Option Call → Type 0 = λ r. IsCall r (command_of c.args.words.now.items) in
     let Q : List (List ℕ) → Type 0 = λ words. IsCall c.call_of.result (command_of words) in
     check_comes c.args.words.now.items c.in-Some-Check.image.now c.in-Some-Check.cert.now c.in-Some-Check.costs.now
-    (outside (g.H.Shelf.files c.args.shelf.now) (g.H.Shelf.load_faults c.args.shelf.now) (g.H.Shelf.store_faults c.args.shelf.now) (g.I.Source.left c.args.input.now) (g.I.Source.faults c.args.input.now))
-    (outside (g.H.Shelf.files c.check_files.new.shelf) (g.H.Shelf.load_faults c.check_files.new.shelf) (g.H.Shelf.store_faults c.check_files.new.shelf) (g.I.Source.left c.args.input.now) (g.I.Source.faults c.args.input.now))
-    (written_is (g.O.Sink.written c.args.out.now) (g.O.Sink.faults c.args.out.now)) (written_is (g.O.Sink.written c.check_files.new.out) (g.O.Sink.faults c.check_files.new.out))
+    (outside (g.H.Shelf.told c.args.shelf.now).files (g.H.Shelf.told c.args.shelf.now).load_faults (g.H.Shelf.told c.args.shelf.now).store_faults (g.I.Source.told c.args.input.now).left (g.I.Source.told c.args.input.now).faults)
+    (outside (g.H.Shelf.told c.check_files.new.shelf).files (g.H.Shelf.told c.check_files.new.shelf).load_faults (g.H.Shelf.told c.check_files.new.shelf).store_faults (g.I.Source.told c.args.input.now).left (g.I.Source.told c.args.input.now).faults)
+    (written_is (g.O.Sink.told c.args.out.now).written (g.O.Sink.told c.args.out.now).faults) (written_is (g.O.Sink.told c.check_files.new.out).written (g.O.Sink.told c.check_files.new.out).faults)
     c.check_files.result (subst P (c.in-Some-Check.is ∙ ap Some c.in-Some-Check.field-0-is) (subst Q c.deref.ensures.value c.call_of.ensures)) c.check_files.ensures.files refl refl c.check_files.ensures.comes
 
 pub returns-in-Some-Print-clause-comes : goal.returns-in-Some-Print-clause-comes
@@ -21,9 +21,9 @@ returns-in-Some-Print-clause-comes g c =
     let P : Option Call → Type 0 = λ r. IsCall r (command_of c.args.words.now.items) in
     let Q : List (List ℕ) → Type 0 = λ words. IsCall c.call_of.result (command_of words) in
     print_comes c.args.words.now.items c.in-Some-Print.program.now
-    (outside (g.H.Shelf.files c.args.shelf.now) (g.H.Shelf.load_faults c.args.shelf.now) (g.H.Shelf.store_faults c.args.shelf.now) (g.I.Source.left c.args.input.now) (g.I.Source.faults c.args.input.now))
-    (outside (g.H.Shelf.files c.print_program.new.shelf) (g.H.Shelf.load_faults c.print_program.new.shelf) (g.H.Shelf.store_faults c.print_program.new.shelf) (g.I.Source.left c.args.input.now) (g.I.Source.faults c.args.input.now))
-    (written_is (g.O.Sink.written c.args.out.now) (g.O.Sink.faults c.args.out.now)) (written_is (g.O.Sink.written c.print_program.new.out) (g.O.Sink.faults c.print_program.new.out))
+    (outside (g.H.Shelf.told c.args.shelf.now).files (g.H.Shelf.told c.args.shelf.now).load_faults (g.H.Shelf.told c.args.shelf.now).store_faults (g.I.Source.told c.args.input.now).left (g.I.Source.told c.args.input.now).faults)
+    (outside (g.H.Shelf.told c.print_program.new.shelf).files (g.H.Shelf.told c.print_program.new.shelf).load_faults (g.H.Shelf.told c.print_program.new.shelf).store_faults (g.I.Source.told c.args.input.now).left (g.I.Source.told c.args.input.now).faults)
+    (written_is (g.O.Sink.told c.args.out.now).written (g.O.Sink.told c.args.out.now).faults) (written_is (g.O.Sink.told c.print_program.new.out).written (g.O.Sink.told c.print_program.new.out).faults)
     c.print_program.result (subst P (c.in-Some-Print.is ∙ ap Some c.in-Some-Print.field-0-is) (subst Q c.deref.ensures.value c.call_of.ensures)) c.print_program.ensures.files refl refl c.print_program.ensures.comes
 
 pub returns-in-Some-Rules-clause-comes : goal.returns-in-Some-Rules-clause-comes
@@ -31,7 +31,7 @@ returns-in-Some-Rules-clause-comes g c =
     let P : Option Call → Type 0 = λ r. IsCall r (command_of c.args.words.now.items) in
     let Q : List (List ℕ) → Type 0 = λ words. IsCall c.call_of.result (command_of words) in
     rules_comes c.args.words.now.items c.in-Some-Rules.program.now
-    (outside (g.H.Shelf.files c.args.shelf.now) (g.H.Shelf.load_faults c.args.shelf.now) (g.H.Shelf.store_faults c.args.shelf.now) (g.I.Source.left c.args.input.now) (g.I.Source.faults c.args.input.now))
-    (outside (g.H.Shelf.files c.rules_of_program.new.shelf) (g.H.Shelf.load_faults c.rules_of_program.new.shelf) (g.H.Shelf.store_faults c.rules_of_program.new.shelf) (g.I.Source.left c.args.input.now) (g.I.Source.faults c.args.input.now))
-    (written_is (g.O.Sink.written c.args.out.now) (g.O.Sink.faults c.args.out.now)) (written_is (g.O.Sink.written c.rules_of_program.new.out) (g.O.Sink.faults c.rules_of_program.new.out))
+    (outside (g.H.Shelf.told c.args.shelf.now).files (g.H.Shelf.told c.args.shelf.now).load_faults (g.H.Shelf.told c.args.shelf.now).store_faults (g.I.Source.told c.args.input.now).left (g.I.Source.told c.args.input.now).faults)
+    (outside (g.H.Shelf.told c.rules_of_program.new.shelf).files (g.H.Shelf.told c.rules_of_program.new.shelf).load_faults (g.H.Shelf.told c.rules_of_program.new.shelf).store_faults (g.I.Source.told c.args.input.now).left (g.I.Source.told c.args.input.now).faults)
+    (written_is (g.O.Sink.told c.args.out.now).written (g.O.Sink.told c.args.out.now).faults) (written_is (g.O.Sink.told c.rules_of_program.new.out).written (g.O.Sink.told c.rules_of_program.new.out).faults)
     c.rules_of_program.result (subst P (c.in-Some-Rules.is ∙ ap Some c.in-Some-Rules.field-0-is) (subst Q c.deref.ensures.value c.call_of.ensures)) c.rules_of_program.ensures.files refl refl c.rules_of_program.ensures.comes

@@ -8,5 +8,5 @@ use Rattle.pretc_top.proofs.stages.load_program.Goals as goal
 pub returns-clause-failed : goal.returns-clause-failed
 returns-clause-failed g c =
     let P : Result Program Refusal → Type 0 = λ r. IsRead c.in-Ok.text r in
-    refusal_fails c.args.name.now (g.H.Shelf.files c.args.shelf.now) (g.H.Shelf.load_faults c.args.shelf.now) (g.H.Shelf.load_faults c.load_text.new.shelf) c.in-Ok.text c.in-Err-source_of.refusal c.refused-verdict.result
+    refusal_fails c.args.name.now (g.H.Shelf.told c.args.shelf.now).files (g.H.Shelf.told c.args.shelf.now).load_faults (g.H.Shelf.told c.load_text.new.shelf).load_faults c.in-Ok.text c.in-Err-source_of.refusal c.refused-verdict.result
     c.in-Ok.ensures.held (subst P c.in-Err-source_of.is c.source_of.ensures) c.refused-verdict.ensures

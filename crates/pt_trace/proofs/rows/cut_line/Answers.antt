@@ -1,7 +1,7 @@
 use Rattle.std.proofs.Common.{ℕ, List, ◌∷◌, ◌+◌, ◌-◌, length, take, drop, true, ap, sym, ◌∙◌, arith}
 use Rattle.std.proofs.lemmas.List.{take_all, length-drop}
 use Rattle.pt_trace.specs.Trace.{lines}
-use Rattle.pt_trace.proofs.Cutting.{cut-more, cut-ends, cut-last}
+use Rattle.pt_trace.proofs.CutLine.{cut-more, cut-ends, cut-last}
 use Rattle.pt_trace.proofs.rows.cut_line.Goals as goal
 
 pub returns-then-byte-eq10-clause-lines : goal.returns-then-byte-eq10-clause-lines

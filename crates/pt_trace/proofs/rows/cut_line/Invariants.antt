@@ -1,6 +1,6 @@
 use Rattle.std.proofs.Common.{◌≡◌, take, drop}
 use Rattle.pt_trace.specs.Trace.{lines}
-use Rattle.pt_trace.proofs.Cutting.{begins_all}
+use Rattle.pt_trace.proofs.CutLine.{begins_all}
 use Rattle.pt_trace.proofs.rows.cut_line.Given as goal
 
 -- the bytes so far begin the first line

@@ -1,7 +1,7 @@
 use Rattle.std.proofs.Common.{◌≡◌, ◌+◌, ◌≤◌, length}
 use Rattle.pt_trace.specs.Trace.{lines}
 use Rattle.pt_trace.specs.Rows.{rows_from, rows_of}
-use Rattle.pt_trace.proofs.Cutting.{joined}
+use Rattle.pt_trace.proofs.CutLine.{joined}
 use Rattle.pt_trace.proofs.rows.read_rows.Given as goal
 
 -- the rows so far, before those of the rest, are the whole

@@ -1,0 +1,3 @@
+pub mod Fronts
+mod Stepping
+pub mod Written

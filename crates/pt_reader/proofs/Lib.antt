@@ -1,4 +1,0 @@
-pub mod Answering
-pub mod Cutting
-pub mod Keeping
-mod Chains

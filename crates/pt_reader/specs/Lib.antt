@@ -1,4 +1,0 @@
-pub mod Gathering
-pub mod Next
-pub mod Pulling
-pub mod Runs

@@ -14,3 +14,8 @@ pub mod Choosing
 pub mod Going
 pub mod Ticks
 pub mod SmallRuns
+pub mod SmallCells
+pub mod SmallChains
+pub mod SmallSums
+pub mod SmallBodies
+pub mod SmallTyped

@@ -21,7 +21,7 @@ mod values;
 mod writes;
 
 pub use laws::{
-    a_function_does_its_body, a_routine_never_pauses, a_small_program_means_the_same,
+    a_function_does_its_body, a_routine_never_pauses, a_small_program_means_the_same, a_small_tree_is_its_program, a_small_tree_means_the_same,
     a_tree_finishes_alike, a_tree_pauses_alike, more_functions_change_nothing,
     what_cannot_finish_pauses,
 };

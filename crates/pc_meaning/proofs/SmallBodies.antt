@@ -1,12 +1,10 @@
 -- The statements of a small program's tree, with numbers for names, are those of the whole language; its `EOT`s are
 -- counted in the order of the text.
-use Rattle.std.proofs.Common.{◌≡◌, ℕ, zero, suc, ◌+◌, ◌<◌, ◌≤◌, Bool, true, false, List, [], ◌∷◌, ◌++◌, append_assoc, length-append, map, length, Option, Some, None, refl, sym, ap, subst, ◌∙◌, arith}
+use Rattle.std.proofs.Common.{◌≡◌, ℕ, ◌+◌, ◌<◌, ◌≤◌, true, false, List, [], ◌∷◌, ◌++◌, append_assoc, length-append, map, length, Option, Some, None, refl, sym, ap, subst, ◌∙◌, arith}
 use Rattle.std.specs.Prelude.{nat_lt, if◌then◌else◌}
-use Rattle.std.specs.Option.{option_map}
 use Rattle.std.proofs.lemmas.Bool.Decides.{nat_tests}
 use Rattle.pt_base.specs.declared.Span.{Span}
 use Rattle.pc_ast.specs.declared.expressions.Word.{Word}
-use Rattle.pc_ast.specs.declared.expressions.Expr.{Expr, out-Expr}
 use Rattle.pc_ast.specs.declared.expressions.Goal.{Goal}
 use Rattle.pc_ast.specs.declared.expressions.Goal.TheVariants.{Nothing, Var as GoalVar, Elem as GoalElem}
 use Rattle.pc_ast.specs.declared.statements.Stmt.{Stmt, out-Stmt, fold-Stmt, fold-roll-Stmt}
@@ -23,7 +21,7 @@ use Rattle.pc_small.specs.declared.program.Step.{Step}
 use Rattle.pc_small.specs.declared.program.Step.TheVariants.{Assign, Pause}
 use Rattle.pc_small.specs.Trees.{put_first, each, cell_named, sum_of, goal_of, assigned, step_in, step_of}
 use Rattle.pc_meaning.specs.Meaning as short
-use Rattle.pc_meaning.specs.Tree.{Expression, Statement, Statements, assign, to_cell, eot, each as then_all}
+use Rattle.pc_meaning.specs.Tree.{assign, to_cell, eot, each as then_all}
 use Rattle.pc_meaning.specs.Programs.{joined, eots_step, number_of, Numbering, statement_of, statements_of, expression_of}
 use Rattle.pc_meaning.specs.SmallPrograms.{sum_tree, body_tree}
 use Rattle.pc_meaning.proofs.Trees.{statement-Assign, statement-Eot}
@@ -119,7 +117,7 @@ module _ {declared : List Item} {cells : List Cell} (scalars : Scalars declared 
           by_name (Some k) (Some os) named there is =
               let whole : Assign k os ≡ step = cc in
               let one : numbered_one (roll-Stmt Word (Assignment (GoalVar x) e)) ≡ AssignTree (GoalVar (number scalars x)) (numbered (number scalars) e) =
-                fold-roll-Stmt Word (Stmt ℕ) (numbered_statement_step (number scalars) function) (Assignment (GoalVar x) e) in
+              fold-roll-Stmt Word (Stmt ℕ) (numbered_statement_step (number scalars) function) (Assignment (GoalVar x) e) in
               subst (IsStep (roll-Stmt Word (Assignment (GoalVar x) e))) whole
               (assigns k os
               (λ n. ap (statement_of (rooms scalars) n) one ∙ statement-Assign (rooms scalars) n (GoalVar (number scalars x)) (numbered (number scalars) e)
@@ -177,7 +175,7 @@ module _ {declared : List Item} {cells : List Cell} (scalars : Scalars declared 
   body_is none n before from to below rises same = refl
   body_is (more {s = s} {body = body} {steps = steps} (assigns goal os is pauses_not) d) n before from to below rises same =
       let rest = body_is d n before from to below (subst (λ l. Rises from (l ++ eots_of body) to) pauses_not rises)
-        (λ x. same x ∙ ap (λ l. number_of (before ++ (l ++ eots_of body)) x) pauses_not) in
+      (λ x. same x ∙ ap (λ l. number_of (before ++ (l ++ eots_of body)) x) pauses_not) in
       ap (λ t. then_all t (statements_of (rooms scalars) n (map numbered_one body))) (is n) ∙ ap (then_all (assign (to_cell goal) (sum_tree os))) rest
   body_is (more {s = s} {body = body} {steps = steps} (pauses span is pauses_here has) d) n before from to below rises same =
       let h : Rises from (span ∷ eots_of body) to = subst (λ l. Rises from (l ++ eots_of body) to) pauses_here rises in
@@ -186,8 +184,8 @@ module _ {declared : List Item} {cells : List Cell} (scalars : Scalars declared 
       let here : n.eot_number span ≡ length before = same span ∙ ap (λ l. number_of (before ++ (l ++ eots_of body)) span) pauses_here ∙ number_is span from to before (eots_of body) below h in
       let counted : length (before ++ span ∷ []) ≡ length before + 1 = length-append before (span ∷ []) in
       let rest = body_is d n (before ++ span ∷ []) span.to to
-        (below_both span.to before (span ∷ []) (below_more from span.to before (omega (arith, first, some)) below) (some, tt)) h.2
-        (λ x. same x ∙ ap (λ l. number_of (before ++ (l ++ eots_of body)) x) pauses_here ∙ ap (λ l. number_of l x) (sym (append_assoc before (span ∷ []) (eots_of body)))) in
+      (below_both span.to before (span ∷ []) (below_more from span.to before (omega (arith, first, some)) below) (some, tt)) h.2
+      (λ x. same x ∙ ap (λ l. number_of (before ++ (l ++ eots_of body)) x) pauses_here ∙ ap (λ l. number_of l x) (sym (append_assoc before (span ∷ []) (eots_of body)))) in
       ap (λ t. then_all t (statements_of (rooms scalars) n (map numbered_one body))) (is n)
       ∙ ap (λ k. then_all (eot k) (statements_of (rooms scalars) n (map numbered_one body))) here
       ∙ ap (then_all (eot (length before))) (rest ∙ ap (λ k. body_tree (short.statements_from k steps)) counted)

@@ -8,8 +8,6 @@ use Rattle.pc_ast.specs.declared.programs.CellKind.{CellKind}
 use Rattle.pc_ast.specs.declared.programs.CellKind.TheVariants.{Input, Output, Plain, Array as ArrayKind, Parameter, Local}
 use Rattle.pc_ast.specs.declared.programs.Item.{Item}
 use Rattle.pc_ast.specs.declared.programs.Item.TheVariants.{Scalar, Array, Function}
-use Rattle.pc_typed.specs.declared.typed.Cell.{Cell as TypedCell}
-use Rattle.pc_typed.specs.declared.typed.Function.{Function as TypedFunction}
 use Rattle.pc_typed.specs.Breaking.{is_main_item}
 use Rattle.pc_typed.specs.Places.{is_main}
 use Rattle.pc_typed.specs.Typing.{cells_of, functions_in, typed_item, typed_from}
@@ -20,8 +18,7 @@ use Rattle.pc_small.specs.declared.program.CellKind.TheVariants.{Input as SmallI
 use Rattle.pc_small.specs.Program as small
 use Rattle.pc_small.specs.Trees.{kind_of, cell_of, put_first, each}
 use Rattle.pc_meaning.specs.Meaning as short
-use Rattle.pc_meaning.specs.declared.places.Room.{Room}
-use Rattle.pc_meaning.specs.Programs.{rooms_from, room_at, place_of, declared_of, is_input, is_output, chosen}
+use Rattle.pc_meaning.specs.Programs.{rooms_from, place_of, declared_of, is_input, is_output, chosen}
 
 abbrev small_cell : SmallKind → ℤ → Cell
 small_cell k start = record { kind = k; start = start }

@@ -1,7 +1,6 @@
 -- In what tokens spell, a chain has an operator.
-use Rattle.std.proofs.Common.{◌≡◌, ℕ, Bool, true, false, List, [], ◌∷◌, ◌++◌, Option, Some, None, refl, sym, ap, subst, ◌∙◌}
+use Rattle.std.proofs.Common.{◌≡◌, ℕ, Bool, true, false, List, [], ◌∷◌, ◌++◌, Some, None, sym, ap, subst, ◌∙◌}
 use Rattle.pt_base.specs.declared.Span.{Span}
-use Rattle.pt_base.specs.declared.operators.UnOp.{UnOp}
 use Rattle.pt_base.specs.declared.operators.BinOp.{BinOp}
 use Rattle.pc_lex.specs.declared.tokens.Token.{Token}
 use Rattle.pc_ast.specs.declared.expressions.Word.{Word}
@@ -25,8 +24,8 @@ use Rattle.pc_grammar.specs.Settings.{SpellsSetting, value, call}
 use Rattle.pc_grammar.specs.Simple.{SpellsNamed, variable, element as to_element, routine as call_alone, SpellsSimple, skip, named, eot, par}
 use Rattle.pc_grammar.specs.Statements.{SpellsStmt, simple, block, if_open, if_else, while, abort, weak_abort, SpellsParts, none as no_parts, more as more_parts}
 use Rattle.pc_grammar.specs.Frames.{SpellsFrame, framed}
-use Rattle.pc_grammar.specs.Items.{SpellsReactive, reactive, SpellsFunction, function, SpellsNamedItem, plain, started, array, giving, SpellsItem, input, output, named as named_item, routine}
-use Rattle.pc_grammar.specs.Programs.{IsProgram, none as no_items, more as more_items}
+use Rattle.pc_grammar.specs.Items.{SpellsReactive, reactive, function, SpellsNamedItem, plain, started, array, giving, SpellsItem, input, output, named as named_item, routine}
+use Rattle.pc_grammar.specs.Programs.{IsProgram, more as more_items}
 
 -- no chain without an operator
 abbrev pub HasOperator : Expr-F Word (Expr Word) → Type 0

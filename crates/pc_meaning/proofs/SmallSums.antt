@@ -1,5 +1,5 @@
 -- The expressions of a small program's tree, with numbers for names, are those of the whole language.
-use Rattle.std.proofs.Common.{◌≡◌, ℕ, suc, ◌+◌, ◌<◌, ◌≤◌, Bool, true, false, cond, List, [], ◌∷◌, ◌++◌, map, length, take, Option, Some, None, refl, sym, ap, subst, ◌∙◌, arith}
+use Rattle.std.proofs.Common.{◌≡◌, ℕ, suc, ◌+◌, ◌<◌, ◌≤◌, Bool, true, false, cond, List, [], ◌∷◌, map, length, take, Option, Some, None, refl, sym, ap, subst, ◌∙◌, arith}
 use Rattle.std.specs.Prelude.{position, unwrap_or, if◌then◌else◌}
 use Rattle.std.specs.Bool.{one_answer}
 use Rattle.std.specs.Option.{option_map}
@@ -23,7 +23,7 @@ use Rattle.pc_small.specs.declared.program.Operand.{Operand}
 use Rattle.pc_small.specs.declared.program.Operand.TheVariants.{Constant, Read}
 use Rattle.pc_small.specs.Trees.{put_first, each, name_of, is_named, cell_named, operand_in, operand_of, is_add, added_of, sum_in, sum_of}
 use Rattle.pc_meaning.specs.declared.places.Room.{Room}
-use Rattle.pc_meaning.specs.Tree.{Expression, Operands, cell, chain, operand}
+use Rattle.pc_meaning.specs.Tree.{cell, chain, operand}
 use Rattle.pc_meaning.specs.Programs.{rooms_from, place_of, expression_of, operands_of}
 use Rattle.pc_meaning.specs.SmallPrograms.{operand_tree, added_tree, sum_tree}
 use Rattle.pc_meaning.proofs.Trees.{expression-Number, expression-Var, expression-Chain}

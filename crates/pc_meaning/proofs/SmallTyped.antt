@@ -12,17 +12,17 @@ use Rattle.pc_grammar.proofs.ItemSpans.{rise}
 use Rattle.pc_typed.specs.declared.typed.Cell.{Cell}
 use Rattle.pc_typed.specs.declared.typed.Function.{Function}
 use Rattle.pc_typed.specs.Places.{is_thread}
-use Rattle.pc_typed.specs.Typing.{Typing, cells_of, function_number, typed_from, typing_of}
+use Rattle.pc_typed.specs.Typing.{cells_of, function_number, typed_from, typing_of}
 use Rattle.pc_small.specs.Program as small
 use Rattle.pc_small.specs.Trees.{IsTreeOf}
 use Rattle.pc_meaning.specs.Tree.{Statements, Program}
-use Rattle.pc_meaning.specs.Programs.{rooms_from, is_input, is_output, chosen, declared_of, number_of, Numbering, numbering_of, statements_of, program_of}
+use Rattle.pc_meaning.specs.Programs.{rooms_from, is_input, is_output, chosen, declared_of, number_of, Numbering, numbering_of, program_of}
 use Rattle.pc_meaning.specs.Meaning as short
 use Rattle.pc_meaning.specs.Runs.{outputs_at, before_ticks, moments_from, meaning_of}
 use Rattle.pc_meaning.specs.SmallPrograms.{body_tree, program_tree, moment_tree}
 use Rattle.pc_meaning.proofs.SmallRuns.{small-same}
 use Rattle.pc_meaning.proofs.SmallCells.{Scalars, scalars, main, declared_same, chosen_same, input_same, output_same, cells_behind, functions_behind, main_behind}
-use Rattle.pc_meaning.proofs.SmallChains.{AllSound, HasSoundBody, sound_last}
+use Rattle.pc_meaning.proofs.SmallChains.{AllSound, sound_last}
 use Rattle.pc_meaning.proofs.SmallBodies.{rest_rises, AreSteps, are_steps, numbered_one, eots_of, eots_rise, body_is}
 
 spans_both : (a b : List Item) → spans_of (a ++ b) ≡ spans_of a ++ spans_of b
@@ -62,13 +62,13 @@ module _ {declared : List Item} (p : small.Program) (s : Scalars declared p.cell
 
   parts_same : AreSteps s (function_number declared) body p.steps → Rises 0 (spans_of items) end → program_with (cells_of declared) (typed_main ∷ []) 0 ≡ program_tree p
   parts_same steps rises =
-      let all : List ℕ = chosen is_output (cells_of declared) (rooms_from 0 (cells_of declared)) in
+      let outputs : List ℕ = chosen is_output (cells_of declared) (rooms_from 0 (cells_of declared)) in
       let inputs : List ℕ = chosen is_input (cells_of declared) (rooms_from 0 (cells_of declared)) in
       let below = eots_rise s (function_number declared) steps name.span.to end (body_rises declared name body end rises) in
       let counted : (x : Span) → numbering.eot_number x ≡ number_of (eots_of s (function_number declared) body) x = λ x. ap (λ l. number_of l x) (append-nil (eots_of s (function_number declared) body)) in
-      ap (λ b. assembled b (declared_of (cells_of declared)) inputs all) (body_is s (function_number declared) steps numbering [] name.span.to end tt below counted)
-      ∙ ap (λ d. assembled (body_tree (short.body_of p)) d inputs all) (declared_same s)
-      ∙ ap (λ i. assembled (body_tree (short.body_of p)) (map (λ k. k.start) p.cells) i all) (chosen_same is_input small.is_input input_same s 0)
+      ap (λ b. assembled b (declared_of (cells_of declared)) inputs outputs) (body_is s (function_number declared) steps numbering [] name.span.to end tt below counted)
+      ∙ ap (λ d. assembled (body_tree (short.body_of p)) d inputs outputs) (declared_same s)
+      ∙ ap (λ i. assembled (body_tree (short.body_of p)) (map (λ k. k.start) p.cells) i outputs) (chosen_same is_input small.is_input input_same s 0)
       ∙ ap (λ o. assembled (body_tree (short.body_of p)) (map (λ k. k.start) p.cells) (short.inputs_of p) o) (chosen_same is_output small.is_output output_same s 0)
 
   typed_is : AreSteps s (function_number declared) body p.steps → Rises 0 (spans_of items) end → program_of (typing_of items end) ≡ program_tree p

@@ -1,3 +1,4 @@
 pub mod Fronts
+mod MeanStepping
 mod Stepping
 pub mod Written

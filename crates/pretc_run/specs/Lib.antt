@@ -1,5 +1,7 @@
 pub mod Endings
 pub mod Lines
+pub mod MeanUnderWay
+pub mod Meant
 pub mod Reporting
 pub mod Running
 pub mod Told

@@ -17,8 +17,8 @@ fn greater(a: u64, b: u64) -> u64
     if a < b { b } else { a }
 }
 
-// Pushes the line of an ending, which ends the run.
-fn say<O: Sink>(ending: Ending, out: &mut O) -> Result<Option<Ending>, Failed>
+/// Pushes the line of an ending, which ends the run.
+pub fn say<O: Sink>(ending: Ending, out: &mut O) -> Result<Option<Ending>, Failed>
     ensures { SaysLast ending (line_of ending) (O.told out.old) (O.told out.new) result }
 {
     let line = ending.line();

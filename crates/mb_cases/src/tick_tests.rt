@@ -1,4 +1,4 @@
-use crate::runs::runs_so;
+use crate::runs::all_run_so;
 use std::test::Fail;
 
 // Adds 1 to its input, tick by tick.
@@ -31,54 +31,25 @@ const RISING: &str =
 
 #[test]
 fn rows_of_ticks(rt: HostRuntime) -> Result<(), Fail> {
-    let alloc = rt.alloc();
     assert!(rt;
-        runs_so(
-            alloc,
+        all_run_so(
+            rt.alloc(),
             COUNTER,
-            "5;-1;2147483647",
-            8,
-            "7 6;8 0;8 -2147483648"
+            "5;-1;2147483647,8,7 6;8 0;8 -2147483648;"
         )?
     );
-    assert!(rt; runs_so(alloc, WEAK, "1;0;0", 100, "4;9;6")?);
-    assert!(rt; runs_so(alloc, STRONG, "1;0;0", 100, "4;7;6")?);
-    assert!(rt; runs_so(alloc, LOOP, ";;", 14, "13;14;14")?);
-    assert!(rt; runs_so(alloc, LOOP, ";", 12, "Late 4;Late 4")?);
-    assert!(rt; runs_so(alloc, JOIN, ";;;", 100, "4;4;2;1")?);
-    assert!(rt; runs_so(alloc, RISING, ";", 100, "9 2;2 2")?);
+    assert!(rt; all_run_so(rt.alloc(), WEAK, "1;0;0,100,4;9;6;")?);
+    assert!(rt; all_run_so(rt.alloc(), STRONG, "1;0;0,100,4;7;6;")?);
+    assert!(rt; all_run_so(rt.alloc(), LOOP, ";;,14,13;14;14;\n;,12,Late 4;Late 4;")?);
+    assert!(rt; all_run_so(rt.alloc(), JOIN, ";;;,100,4;4;2;1;")?);
+    assert!(rt; all_run_so(rt.alloc(), RISING, ";,100,9 2;2 2;")?);
     Ok(())
 }
 
 #[test]
 fn weak_aborts_fire_round_groups(rt: HostRuntime) -> Result<(), Fail> {
-    let alloc = rt.alloc();
-    assert!(rt;
-        runs_so(
-            alloc,
-            THREE_DEEP,
-            "0 0 0;1 0 0;0 0 0;0 0 0",
-            100,
-            "11;12;13;4"
-        )?
-    );
-    assert!(rt;
-        runs_so(
-            alloc,
-            THREE_DEEP,
-            "0 0 0;0 1 0;0 0 0;0 0 0;0 0 0",
-            100,
-            "11;12;13;9;4"
-        )?
-    );
-    assert!(rt;
-        runs_so(
-            alloc,
-            THREE_DEEP,
-            "0 0 0;1 0 1;0 0 0;0 0 0",
-            100,
-            "11;12;14;4"
-        )?
-    );
+    let table =
+        "0 0 0;1 0 0;0 0 0;0 0 0,100,11;12;13;4;\n0 0 0;0 1 0;0 0 0;0 0 0;0 0 0,100,11;12;13;9;4;\n0 0 0;1 0 1;0 0 0;0 0 0,100,11;12;14;4;";
+    assert!(rt; all_run_so(rt.alloc(), THREE_DEEP, table)?);
     Ok(())
 }

@@ -1,28 +1,51 @@
-use crate::runs::runs_so;
+use crate::runs::{all_run_so, runs_so};
 use pt_base::Memory;
 use std::alloc::Global;
 use std::test::Fail;
 
-// Whether an image of one slot with these code words and lists behind its slots traps so in its first tick, and again in
-// the next.
-fn traps_so(alloc: Global, code: &str, lists: &str, most: u64, trap: &str) -> Result<bool, Memory> {
+// The text of an image of one slot with these code words and one weak abort line.
+fn text_of(alloc: Global, code: &str) -> Result<String, Memory> {
     let words = code.split_whitespace().count();
     let mut text = format!(in alloc; "ARPRET 1\ncode {}\n", words)?;
     for word in code.split_whitespace() {
-        text = format!(in alloc; "{}{}\n", text.as_str(), word)?;
+        text.push_str(word)?;
+        text.push_str("\n")?;
     }
-    let text = format!(in alloc;
-        "{}memory 2\n0\n0\ninputs 0\noutputs 0\nslots 1\n0\n{}",
-        text.as_str(),
-        lists
+    text.push_str(
+        "memory 2\n0\n0\ninputs 0\noutputs 0\nslots 1\n0\naborts 1\nw 0 0\npauses 0\nforks 0\n",
     )?;
-    let told = format!(in alloc; "{};{}", trap, trap)?;
-    runs_so(alloc, &text, ";", most, &told)
+    Ok(text)
 }
 
-const NONE: &str = "aborts 0\npauses 0\nforks 0\n";
+// One line of a table: code words, the cycles that a tick may take, and the trap of the first tick and the next.
+fn line_traps_so(alloc: Global, line: &str) -> Result<bool, Memory> {
+    let mut fields = line.split(',');
+    let (Some(code), Some(most), Some(told)) = (fields.next(), fields.next(), fields.next()) else {
+        return Ok(false);
+    };
+    let Ok(most) = most.parse::<u64>() else {
+        return Ok(false);
+    };
+    let text = text_of(alloc, code)?;
+    runs_so(alloc, &text, ";", most, told)
+}
 
-const ABORT: &str = "aborts 1\nw 0 0\npauses 0\nforks 0\n";
+// Whether each line of a table traps as it tells.
+fn all_trap_so(alloc: Global, table: &str) -> Result<bool, Memory> {
+    for line in table.lines() {
+        if !line_traps_so(alloc, line)? {
+            return Ok(false);
+        }
+    }
+    Ok(true)
+}
+
+const EACH: &str =
+    "30630001,100,OutOfCode 1;OutOfCode 1;\nffffffff,100,BadWord 0;BadWord 0;\nb0000001 10632000,100,WrongPlace 1;WrongPlace 1;\nfd400000,100,WrongPlace 0;WrongPlace 0;\nfc200000,100,WrongPlace 0;WrongPlace 0;\nfce00001 fc400000,100,WrongPlace 1;WrongPlace 1;\nfc600001,100,WrongPlace 0;WrongPlace 0;\nfca00000,100,TableFull 0;TableFull 0;\nfcc00000,100,TableEmpty 0;TableEmpty 0;\ne8600008,100,BadAddress 0;BadAddress 0;\nb8000010,100,OutOfCode 0;OutOfCode 0;\nb8000000,5,Late 0;Late 0;\nb8000000,0,Late 0;Late 0;";
+
+// Each of these meets two traps at once, or a trap behind a branch that isn't taken.
+const FIRST_OF_TWO: &str =
+    "b0000001 ffffffff,100,BadWord 1;BadWord 1;\nfc600000 fc600000 fc600000 fc600000 fc600000 fc600000 fc600000 fc600000 fc600000,100,TableFull 8;TableFull 8;\nfc600000 fc600000 fc600000 fc600000 fc600000 fc600000 fc600000 fc600000 fca00009 fc600000,100,WrongPlace 9;WrongPlace 9;\nfca00001 fc800000,100,WrongPlace 1;WrongPlace 1;\nfc800000,100,TableEmpty 0;TableEmpty 0;\ne8600008,1,BadAddress 0;BadAddress 0;\nb8000010,1,OutOfCode 0;OutOfCode 0;\nbc000010,1,OutOfCode 0;OutOfCode 0;\nbc200010 fc200000,2,WrongPlace 1;WrongPlace 1;";
 
 // Slot 1 forks slot 2, which slot 0 has started.
 const BUSY: &str =
@@ -33,40 +56,21 @@ const BUSY_UNLISTED: &str =
 
 #[test]
 fn each_trap(rt: HostRuntime) -> Result<(), Fail> {
-    let alloc = rt.alloc();
-    assert!(rt; traps_so(alloc, "30630001", NONE, 100, "OutOfCode 1")?);
-    assert!(rt; traps_so(alloc, "ffffffff", NONE, 100, "BadWord 0")?);
-    assert!(rt; traps_so(alloc, "b0000001 10632000", NONE, 100, "WrongPlace 1")?);
-    assert!(rt; traps_so(alloc, "fd400000", NONE, 100, "WrongPlace 0")?);
-    assert!(rt; traps_so(alloc, "fc200000", NONE, 100, "WrongPlace 0")?);
-    assert!(rt; traps_so(alloc, "fce00001 fc400000", NONE, 100, "WrongPlace 1")?);
-    assert!(rt; traps_so(alloc, "fc600001", ABORT, 100, "WrongPlace 0")?);
-    assert!(rt; traps_so(alloc, "fca00000", NONE, 100, "TableFull 0")?);
-    assert!(rt; traps_so(alloc, "fcc00000", NONE, 100, "TableEmpty 0")?);
-    assert!(rt; runs_so(alloc, BUSY, ";", 100, "SlotBusy 2;SlotBusy 2")?);
-    assert!(rt; traps_so(alloc, "e8600008", NONE, 100, "BadAddress 0")?);
-    assert!(rt; traps_so(alloc, "b8000010", NONE, 100, "OutOfCode 0")?);
-    assert!(rt; traps_so(alloc, "b8000000", NONE, 5, "Late 0")?);
-    assert!(rt; traps_so(alloc, "b8000000", NONE, 0, "Late 0")?);
+    assert!(rt; all_trap_so(rt.alloc(), EACH)?);
+    assert!(rt; all_run_so(rt.alloc(), BUSY, ";,100,SlotBusy 2;SlotBusy 2;")?);
     Ok(())
 }
 
 #[test]
 fn the_first_of_two_traps(rt: HostRuntime) -> Result<(), Fail> {
-    let alloc = rt.alloc();
-    let nine = "fc600000 fc600000 fc600000 fc600000 fc600000 fc600000 fc600000 fc600000 fc600000";
-    let called =
-        "fc600000 fc600000 fc600000 fc600000 fc600000 fc600000 fc600000 fc600000 fca00009 fc600000";
-    assert!(rt; traps_so(alloc, "b0000001 ffffffff", NONE, 100, "BadWord 1")?);
-    assert!(rt; traps_so(alloc, nine, ABORT, 100, "TableFull 8")?);
-    assert!(rt; traps_so(alloc, called, ABORT, 100, "WrongPlace 9")?);
-    assert!(rt; traps_so(alloc, "fca00001 fc800000", NONE, 100, "WrongPlace 1")?);
-    assert!(rt; traps_so(alloc, "fc800000", NONE, 100, "TableEmpty 0")?);
-    assert!(rt; runs_so(alloc, BUSY_UNLISTED, ";", 100, "WrongPlace 2;WrongPlace 2")?);
-    assert!(rt; runs_so(alloc, BUSY, ";", 2, "SlotBusy 2;SlotBusy 2")?);
-    assert!(rt; traps_so(alloc, "e8600008", NONE, 1, "BadAddress 0")?);
-    assert!(rt; traps_so(alloc, "b8000010", NONE, 1, "OutOfCode 0")?);
-    assert!(rt; traps_so(alloc, "bc000010", NONE, 1, "OutOfCode 0")?);
-    assert!(rt; traps_so(alloc, "bc200010 fc200000", NONE, 2, "WrongPlace 1")?);
+    assert!(rt; all_trap_so(rt.alloc(), FIRST_OF_TWO)?);
+    assert!(rt; all_run_so(rt.alloc(), BUSY, ";,2,SlotBusy 2;SlotBusy 2;")?);
+    assert!(rt;
+        all_run_so(
+            rt.alloc(),
+            BUSY_UNLISTED,
+            ";,100,WrongPlace 2;WrongPlace 2;"
+        )?
+    );
     Ok(())
 }

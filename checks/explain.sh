@@ -154,7 +154,7 @@ no() {
   front "$rule" 9 check "$image" bad -
 }
 printf '%s\n' 'lwi r3, r0, 0' 'addik r3, r3, 1' 'swi r3, r0, 4' eot 'bri -16' >words
-no A1 5 1 0 0 '5s/.*/-/'
+no A1 4 0 0 0 '5s/.*/-/'
 no A3 4 0 4 3 '4s/4 -/3 -/'
 no A4 7 3 1 0 '7s/1 -/0 -/'
 no A6 7 3 5 - '11s/5/-/'

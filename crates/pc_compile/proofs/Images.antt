@@ -1,6 +1,7 @@
 -- The tables of a compiled program are within the ranges of an image, and its words are plain.
-use Rattle.std.proofs.Common.{◌≡◌, ℕ, suc, ◌+◌, ◌/◌, ◌%◌, ◌<◌, ◌≤◌, ◌==◌, ◌^◌, Bool, true, false, if◌then◌else◌, List, [], ◌∷◌, ◌++◌, length, map, All, Some, refl, sym, ap, subst, ◌∙◌, arith, length-append}
-use Rattle.std.specs.Int.{w16, cast_signed}
+use Rattle.std.proofs.Common.{lit<, ◌≡◌, ℕ, suc, ◌+◌, ◌/◌, ◌%◌, ◌<◌, ◌*◌, ◌≤◌, ◌==◌, ◌^◌, ℤ, pos, FitsSigned, Bool, true, false, if◌then◌else◌, List, [], ◌∷◌, ◌++◌, length, map, All, Some, refl, sym, ap, subst, ◌∙◌, arith, length-append}
+use Rattle.std.specs.Int.{w16, cast_signed, cast_unsigned}
+use Rattle.std.proofs.lemmas.Int.{ints}
 use Rattle.std.specs.List.{AllByRecursion, IsDistinct}
 use Rattle.std.proofs.lemmas.List.{length-map}
 use Rattle.std.proofs.lemmas.List.Elements.{All-head, All-tail}
@@ -8,8 +9,10 @@ use Rattle.std.proofs.lemmas.Option.{slice_get_within}
 use Rattle.mb_isa.specs.declared.registers.Reg.{Reg}
 use Rattle.mb_isa.specs.declared.registers.Reg.TheVariants.{R0, R3, R4}
 use Rattle.mb_isa.specs.declared.words.Instr.{Instr}
-use Rattle.mb_isa.specs.declared.words.Instr.TheVariants.{Addk, Addik, Imm, Swi, End}
-use Rattle.mb_isa.specs.Codes.{code_of, IsInstr}
+use Rattle.mb_isa.specs.declared.words.Instr.TheVariants.{Addk, Addik, Imm, Lwi, Swi, Eot, End}
+use Rattle.mb_isa.specs.Registers.{number}
+use Rattle.mb_isa.specs.Codes.{word_of, code_of, IsInstr}
+use Rattle.mb_isa.proofs.Inverse.{number-below}
 use Rattle.mb_isa.specs.Candidates.{decoded}
 use Rattle.pt_image.specs.declared.image.Point.{Point}
 use Rattle.pt_image.specs.declared.image.Parts.{Parts}
@@ -20,8 +23,8 @@ use Rattle.pc_small.specs.declared.program.Operand.{Operand}
 use Rattle.pc_small.specs.declared.program.Operand.TheVariants.{Constant, Read}
 use Rattle.pc_small.specs.declared.program.Step.{Step}
 use Rattle.pc_small.specs.declared.program.Step.TheVariants.{Assign, Pause}
-use Rattle.pc_small.specs.Program.{Program, IsSmall, StepsFit, OperandFits, OperandsFit, is_input, is_output}
-use Rattle.pc_meaning.specs.Meaning.{inputs_of, outputs_of}
+use Rattle.pc_small.specs.Program.{Program, IsSmall, StepFits, StepsFit, OperandFits, OperandsFit, is_input, is_output}
+use Rattle.pc_small.specs.Ports.{inputs_of, outputs_of}
 use Rattle.pc_compile.specs.Words.{byte_of, is_wide, constant_words, operand_words, added_words, sum_words, step_words, steps_words, code_words, pauses_from, image_of}
 use Rattle.pc_compile.proofs.Running.{decoded_code}
 use Rattle.pc_compile.proofs.Numbers.{fits_half, fits_byte}
@@ -32,40 +35,75 @@ use Rattle.pc_compile.proofs.Ticks.{chosen_size}
 abbrev pub IsPlainWord : Instr → Type 0
 IsPlainWord i = IsInstr i × (is_plain (Some i) ≡ true)
 
+abbrev pub is_eot : Instr → Bool
+is_eot Eot = true
+is_eot _ = false
+
+-- a word that computes: it may stand in a plain image, is no `eot`, and has 32 bits
+abbrev pub Computes : Instr → Type 0
+Computes i = IsInstr i × (is_plain (Some i) ≡ true) × (is_eot i ≡ false) × (code_of i < 2 ^ 32)
+
 both : {A : Type 0} (P : A → Type 0) (xs ys : List A) → AllByRecursion P xs → AllByRecursion P ys → AllByRecursion P (xs ++ ys)
 both P [] ys a b = b
 both P (x ∷ xs) ys a b = (a.0, both P xs ys a.1 b)
 
-constant_plain : (r : Reg) (n : ℕ) → n < 2 ^ 32 → AllByRecursion IsPlainWord (constant_words r n)
-constant_plain r n h = by (is_wide n)
+word_fits : (op rd ra low : ℕ) → op < 64 → rd < 32 → ra < 32 → low < 65536 → word_of op rd ra low < 2 ^ 32
+word_fits op rd ra low a b c d = omega arith
+
+unsigned_fits : (z : ℤ) → FitsSigned w16 z → cast_unsigned w16 z < 65536
+unsigned_fits z h = omega (arith, ints)
+
+adds : (d a b : Reg) → Computes (Addk d a b)
+adds d a b = (tt, refl, refl, word_fits 4 (number d) (number a) (number b * 2048 + 0) (lit< tt) (number-below d) (number-below a) (omega (arith, number-below b)))
+
+adds_number : (d a : Reg) (z : ℤ) → FitsSigned w16 z → Computes (Addik d a z)
+adds_number d a z h = (h, refl, refl, word_fits 12 (number d) (number a) (cast_unsigned w16 z) (lit< tt) (number-below d) (number-below a) (unsigned_fits z h))
+
+begins : (z : ℤ) → FitsSigned w16 z → Computes (Imm z)
+begins z h = (h, refl, refl, word_fits 44 0 0 (cast_unsigned w16 z) (lit< tt) (lit< tt) (lit< tt) (unsigned_fits z h))
+
+loads : (d a : Reg) (z : ℤ) → FitsSigned w16 z → Computes (Lwi d a z)
+loads d a z h = (h, refl, refl, word_fits 58 (number d) (number a) (cast_unsigned w16 z) (lit< tt) (number-below d) (number-below a) (unsigned_fits z h))
+
+stores : (d a : Reg) (z : ℤ) → FitsSigned w16 z → Computes (Swi d a z)
+stores d a z h = (h, refl, refl, word_fits 62 (number d) (number a) (cast_unsigned w16 z) (lit< tt) (number-below d) (number-below a) (unsigned_fits z h))
+
+constant_computes : (r : Reg) (n : ℕ) → n < 2 ^ 32 → AllByRecursion Computes (constant_words r n)
+constant_computes r n h = by (is_wide n)
   where
-    by : (wide : Bool) → AllByRecursion IsPlainWord (if wide
+    by : (wide : Bool) → AllByRecursion Computes (if wide
         then Imm (cast_signed w16 (n / 65536)) ∷ Addik r R0 (cast_signed w16 (n % 65536)) ∷ []
         else Addik r R0 (cast_signed w16 (n % 65536)) ∷ [])
-    by true = ((fits_half (n / 65536) (omega arith), refl), ((fits_half (n % 65536) (omega arith), refl), tt))
-    by false = ((fits_half (n % 65536) (omega arith), refl), tt)
+    by true = (begins (cast_signed w16 (n / 65536)) (fits_half (n / 65536) (omega arith)), (adds_number r R0 (cast_signed w16 (n % 65536)) (fits_half (n % 65536) (omega arith)), tt))
+    by false = (adds_number r R0 (cast_signed w16 (n % 65536)) (fits_half (n % 65536) (omega arith)), tt)
 
-operand_plain : (cells : List Cell) (r : Reg) (operand : Operand) → length cells ≤ 2000 → OperandFits cells operand → AllByRecursion IsPlainWord (operand_words r operand)
-operand_plain cells r (Constant n) few fits = constant_plain r n fits
-operand_plain cells r (Read cell) few fits = ((fits_byte cell (omega arith), refl), tt)
+operand_computes : (cells : List Cell) (r : Reg) (operand : Operand) → length cells ≤ 2000 → OperandFits cells operand → AllByRecursion Computes (operand_words r operand)
+operand_computes cells r (Constant n) few fits = constant_computes r n fits
+operand_computes cells r (Read cell) few fits = (loads r R0 (byte_of cell) (fits_byte cell (omega arith)), tt)
 
-added_plain : (cells : List Cell) (operands : List Operand) → length cells ≤ 2000 → OperandsFit cells operands → AllByRecursion IsPlainWord (added_words operands)
-added_plain cells [] few fits = tt
-added_plain cells (operand ∷ operands) few fits =
-    both IsPlainWord (operand_words R4 operand) (Addk R3 R3 R4 ∷ added_words operands) (operand_plain cells R4 operand few fits.0) ((tt, refl), added_plain cells operands few fits.1)
+added_computes : (cells : List Cell) (operands : List Operand) → length cells ≤ 2000 → OperandsFit cells operands → AllByRecursion Computes (added_words operands)
+added_computes cells [] few fits = tt
+added_computes cells (operand ∷ operands) few fits =
+    both Computes (operand_words R4 operand) (Addk R3 R3 R4 ∷ added_words operands) (operand_computes cells R4 operand few fits.0) (adds R3 R3 R4, added_computes cells operands few fits.1)
 
-sum_plain : (cells : List Cell) (operands : List Operand) → length cells ≤ 2000 → OperandsFit cells operands → AllByRecursion IsPlainWord (sum_words operands)
-sum_plain cells [] few fits = ((record { sfits = omega arith }, refl), tt)
-sum_plain cells (operand ∷ operands) few fits = both IsPlainWord (operand_words R3 operand) (added_words operands) (operand_plain cells R3 operand few fits.0) (added_plain cells operands few fits.1)
+sum_computes : (cells : List Cell) (operands : List Operand) → length cells ≤ 2000 → OperandsFit cells operands → AllByRecursion Computes (sum_words operands)
+sum_computes cells [] few fits = (adds_number R3 R0 (pos 0) (record { sfits = omega arith }), tt)
+sum_computes cells (operand ∷ operands) few fits = both Computes (operand_words R3 operand) (added_words operands) (operand_computes cells R3 operand few fits.0) (added_computes cells operands few fits.1)
+
+-- the words of an assignment
+pub assign_computes : (cells : List Cell) (goal : ℕ) (operands : List Operand) → length cells ≤ 2000 → StepFits cells (Assign goal operands) → AllByRecursion Computes (step_words (Assign goal operands))
+assign_computes cells goal operands few fit =
+    let within : goal < length cells = slice_get_within cells goal fit.0.0 fit.0.1 in
+    both Computes (sum_words operands) (Swi R3 R0 (byte_of goal) ∷ []) (sum_computes cells operands few fit.2) (stores R3 R0 (byte_of goal) (fits_byte goal (omega arith)), tt)
+
+plain : (words : List Instr) → AllByRecursion Computes words → AllByRecursion IsPlainWord words
+plain [] h = tt
+plain (i ∷ words) h = ((h.0.0, h.0.1), plain words h.1)
 
 steps_plain : (cells : List Cell) (steps : List Step) → length cells ≤ 2000 → StepsFit cells steps → AllByRecursion IsPlainWord (steps_words steps)
 steps_plain cells [] few fits = tt
 steps_plain cells (Assign goal operands ∷ steps) few fits =
-    let fit = fits.0 in
-    let within : goal < length cells = slice_get_within cells goal fit.0.0 fit.0.1 in
-    both IsPlainWord (sum_words operands ++ Swi R3 R0 (byte_of goal) ∷ []) (steps_words steps)
-    (both IsPlainWord (sum_words operands) (Swi R3 R0 (byte_of goal) ∷ []) (sum_plain cells operands few fit.2) ((fits_byte goal (omega arith), refl), tt))
-    (steps_plain cells steps few fits.1)
+    both IsPlainWord (step_words (Assign goal operands)) (steps_words steps) (plain (step_words (Assign goal operands)) (assign_computes cells goal operands few fits.0)) (steps_plain cells steps few fits.1)
 steps_plain cells (Pause ∷ steps) few fits = ((tt, refl), steps_plain cells steps few fits.1)
 
 decoded_plain : (words : List Instr) → AllByRecursion IsPlainWord words → AllByRecursion (λ word. is_plain (decoded word) ≡ true) (map code_of words)

@@ -1,3 +1,12 @@
+pub mod SmallMeaning
+pub mod SmallPrograms
+pub mod SmallRuns
+pub mod SmallCells
+pub mod SmallChains
+pub mod SmallSums
+pub mod SmallBodies
+pub mod SmallTyped
+pub mod SmallFaithful
 pub mod Plainly
 pub mod Pieces
 pub mod Numbers
@@ -7,3 +16,5 @@ pub mod Rests
 pub mod Sizes
 pub mod Ticks
 pub mod Images
+pub mod Pauses
+pub mod Restated

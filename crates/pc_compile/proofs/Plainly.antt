@@ -1,5 +1,5 @@
 -- What an image does that does what a program means, by the plain machine; and that it is so by the machine as well.
-use Rattle.std.proofs.Common.{◌≡◌, ◌≤◌, ℕ, ℤ, FitsSigned, List, [], ◌∷◌, All, map, slice_get, Option, Some, None, refl, ap, subst, sym}
+use Rattle.std.proofs.Common.{◌≡◌, ◌≤◌, ℕ, ℤ, List, [], ◌∷◌, All, map, slice_get, Option, Some, None, ap, subst}
 use Rattle.mb_isa.specs.Costs.{IsCosts}
 use Rattle.mb_pfu.specs.declared.Slot.{Slot}
 use Rattle.mb_pfu.specs.declared.Slot.TheVariants.{Paused, Ended as SlotEnded}
@@ -12,9 +12,12 @@ use Rattle.mb_core.proofs.PlainTicks.{told, plain_runs}
 use Rattle.mb_step.specs.Run as whole
 use Rattle.mb_step.specs.Run.{run_of}
 use Rattle.pc_small.specs.Program.{Program}
-use Rattle.pc_meaning.specs.Meaning.{Residual, Standing, Unstarted, At, Ended, Moment, outputs_of, words_at, moments}
-use Rattle.pc_compile.specs.Faithful as faithful
-use Rattle.pc_compile.specs.Faithful.{number_of, IsRow, most_of_compiled}
+use Rattle.pc_small.specs.Ports.{outputs_of}
+use Rattle.pc_compile.proofs.SmallMeaning.{Standing, Unstarted, At, Ended, Moment, words_at, moments}
+use Rattle.pc_compile.specs.Faithful as standing
+use Rattle.pc_compile.proofs.SmallFaithful as faithful
+use Rattle.pc_compile.proofs.SmallFaithful.{number_of, IsRow}
+use Rattle.pc_compile.specs.Faithful.{most_of_compiled}
 
 -- a listed pause is that of slot 0, which is paused there
 abbrev pub PausedAt : Option Point → List Slot → Type 0
@@ -51,7 +54,7 @@ abbrev first_of : List Slot → Slot
 first_of [] = SlotEnded
 first_of (s ∷ ss) = s
 
-paused-first : (o : Option Point) (s : Slot) → PausedAt o (s ∷ []) → faithful.PausedAt o s
+paused-first : (o : Option Point) (s : Slot) → PausedAt o (s ∷ []) → standing.PausedAt o s
 paused-first None s h = h
 paused-first (Some point) s h = (h.0, ap first_of h.1)
 

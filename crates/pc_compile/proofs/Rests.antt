@@ -22,9 +22,9 @@ use Rattle.pc_small.specs.declared.program.Operand.{Operand}
 use Rattle.pc_small.specs.declared.program.Step.{Step}
 use Rattle.pc_small.specs.declared.program.Step.TheVariants.{Assign, Pause}
 use Rattle.pc_small.specs.Program.{StepsFit, OperandsFit}
-use Rattle.pc_meaning.specs.Meaning.{Store, Residual, Standing, Unstarted, At, Ended, Moment, statements_from, start_all, resume, moment_of, sum_of, added, value_of}
+use Rattle.pc_compile.proofs.SmallMeaning.{Store, Residual, Standing, Unstarted, At, Ended, Moment, statements_from, start_all, resume, moment_of, sum_of, added, value_of}
 use Rattle.pc_compile.specs.Words.{step_words, steps_words, pauses_from}
-use Rattle.pc_compile.specs.Faithful.{number_of}
+use Rattle.pc_compile.proofs.SmallFaithful.{number_of}
 use Rattle.pc_compile.proofs.Plainly.{PausedAt, StandsIn}
 use Rattle.pc_compile.proofs.Running.{standing, get_front, drop_next, head_or}
 use Rattle.pc_compile.proofs.Straight.{Goes, goes_one, goes_then, behind, assign_goes, value_fits}

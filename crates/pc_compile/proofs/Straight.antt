@@ -30,7 +30,7 @@ use Rattle.pc_small.specs.declared.program.Operand.{Operand}
 use Rattle.pc_small.specs.declared.program.Operand.TheVariants.{Constant, Read}
 use Rattle.pc_small.specs.Program.{OperandFits, OperandsFit}
 use Rattle.pc_small.specs.declared.program.Step.TheVariants.{Assign}
-use Rattle.pc_meaning.specs.Meaning.{value_of, added, sum_of}
+use Rattle.pc_compile.proofs.SmallMeaning.{value_of, added, sum_of}
 use Rattle.pt_base.specs.Operators.{word_of}
 use Rattle.pc_compile.specs.Words.{byte_of, operand_words, added_words, step_words, is_wide}
 use Rattle.pc_compile.proofs.Numbers.{plus_zero, narrow_bits, wide_bits, fits_low, fits_both, low_bits, fits_half, cell_byte, is_cell, fits_byte}

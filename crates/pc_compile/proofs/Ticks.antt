@@ -16,9 +16,11 @@ use Rattle.mb_core.specs.Run.{loaded, zeros, ticks_from, after_tick}
 use Rattle.pc_small.specs.declared.program.Cell.{Cell}
 use Rattle.pc_small.specs.declared.program.Step.{Step}
 use Rattle.pc_small.specs.Program.{Program, IsSmall, is_input, is_output}
-use Rattle.pc_meaning.specs.Meaning.{Store, Standing, Unstarted, At, Ended, Moment, Outcome, start_all, resume, statements_from, moment_of, sampled, inputs_of, outputs_of, words_at, chosen_from, went, ticked, before_ticks, moments_from}
+use Rattle.pc_small.specs.Ports.{inputs_of, outputs_of, chosen_from}
+use Rattle.pc_compile.proofs.SmallMeaning.{Store, Standing, Unstarted, At, Ended, Moment, Outcome, start_all, resume, statements_from, moment_of, sampled, words_at, went, ticked, before_ticks, moments_from}
 use Rattle.pc_compile.specs.Words.{image_of, steps_words}
-use Rattle.pc_compile.specs.Faithful.{number_of, IsRow, most_of_compiled}
+use Rattle.pc_compile.proofs.SmallFaithful.{number_of, IsRow}
+use Rattle.pc_compile.specs.Faithful.{most_of_compiled}
 use Rattle.pc_compile.proofs.Plainly.{StandsIn, EachMeans, IsFaithfulPlainly}
 use Rattle.pc_compile.proofs.Sizes.{steps_size}
 use Rattle.pc_compile.proofs.Running.{standing, not_lt}

@@ -8,13 +8,16 @@ use Rattle.pt_image.specs.declared.image.Point.{Point}
 use Rattle.pt_image.specs.declared.image.Parts.{Parts}
 use Rattle.mb_pfu.specs.Tree.{slot_of}
 use Rattle.mb_step.specs.Run.{Ticked, Ends, Trapped, run_of}
-use Rattle.pc_small.specs.Program.{Program}
-use Rattle.pc_meaning.specs.Meaning.{Residual, Here, Seq, Standing, Unstarted, At, Ended, Moment, inputs_of, outputs_of, words_at, moments}
+use Rattle.pc_meaning.specs.Tree.{Program}
+use Rattle.pc_meaning.specs.Outcomes.{Residual, here, seq, in_abort, in_par}
+use Rattle.pc_meaning.specs.Runs.{Standing, Unstarted, At, Ended, Moment, before_ticks, moments_from, outputs_at}
 
--- the number of the `EOT` that has paused
-abbrev pub number_of : Residual → ℕ
-number_of (Here number) = number
-number_of (Seq first rest) = number_of first
+-- the listed pause of the `EOT` that has paused, where one thread stands alone
+abbrev pub point_of : Parts → Residual → Option Point
+point_of image (here number) = slice_get image.pauses number
+point_of image (seq r rest) = point_of image r
+point_of image (in_abort j weak test r) = None
+point_of image (in_par i threads) = None
 
 -- a listed pause is that of slot 0, which is paused there
 abbrev pub PausedAt : Option Point → Slot → Type 0
@@ -25,14 +28,14 @@ PausedAt (Some point) slot = (point.slot ≡ 0) × (slot ≡ Paused point.at)
 -- number, or it has ended
 abbrev pub StandsIn : Parts → Standing → Slot → Type 0
 StandsIn image Unstarted slot = ⊥
-StandsIn image (At residual) slot = PausedAt (slice_get image.pauses (number_of residual)) slot
+StandsIn image (At residual) slot = PausedAt (point_of image residual) slot
 StandsIn image Ended slot = slot ≡ SlotEnded
 
 -- a tick of the machine does what the meaning does: it ends, its outputs are the meaning's, and slot 0 stands
 -- where `main` stands
 abbrev pub TickMeans : Program → Parts → Moment → Ticked → Type 0
 TickMeans program image moment (Ends cycles outputs state) =
-    (outputs ≡ words_at (outputs_of program) moment.store) × StandsIn image moment.standing (slot_of 0 state.unit.tree)
+    (outputs ≡ outputs_at program moment) × StandsIn image moment.standing (slot_of 0 state.unit.tree)
 TickMeans program image moment (Trapped kind at charged) = ⊥
 
 -- tick by tick, as many of one as of the other
@@ -44,7 +47,7 @@ EachMeans program image (moment ∷ moments) [] = ⊥
 
 -- one word for each input
 abbrev pub IsRow : Program → List ℤ → Type 0
-IsRow program row = (length row ≡ length (inputs_of program)) × All (FitsSigned w32) row
+IsRow program row = (length row ≡ length program.inputs) × All (FitsSigned w32) row
 
 abbrev pub most_of_compiled : ℕ
 most_of_compiled = 1000000000000
@@ -54,4 +57,4 @@ most_of_compiled = 1000000000000
 abbrev pub IsFaithful : Program → Parts → Type 0
 IsFaithful program image =
     (costs : List ℕ) → IsCosts costs → (most : ℕ) → most_of_compiled ≤ most → (rows : List (List ℤ)) → All (IsRow program) rows
-    → EachMeans program image (moments program rows) (run_of image costs most rows)
+    → EachMeans program image (moments_from program (before_ticks program) rows) (run_of image costs most rows)

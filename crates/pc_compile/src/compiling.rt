@@ -11,12 +11,13 @@ use std::alloc::Global;
 
 /// The image of a small program, or nothing where the tree isn't small.
 pub fn compile(alloc: Global, tree: &pc_grammar::Program) -> Result<Option<Image>, Memory>
-    ensures compiled { IfOk result (λ found. IfSome found (λ image. Compiles tree.now.items image)) }
+    ensures compiled { IfOk result (λ found. IfSome found (λ image. Compiles tree.now image)) }
     ensures not_small { result ≡ Ok None → (program : Program) → IsTreeOf tree.now.items program → ⊥ }
 {
     let Some(program) = small_of(alloc, tree)? else {
         return Ok(None);
     };
+    tree.length();
     let image = build(alloc, &program)?;
     image.ranges();
     Ok(Some(image))

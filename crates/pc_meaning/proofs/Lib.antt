@@ -12,10 +12,3 @@ pub mod Threads
 pub mod Calling
 pub mod Choosing
 pub mod Going
-pub mod Ticks
-pub mod SmallRuns
-pub mod SmallCells
-pub mod SmallChains
-pub mod SmallSums
-pub mod SmallBodies
-pub mod SmallTyped

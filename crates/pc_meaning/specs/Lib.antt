@@ -8,6 +8,3 @@ pub mod Promises
 pub mod Cells
 pub mod Lefts
 pub mod Moments
-pub mod Meaning
-pub mod Standing
-pub mod SmallPrograms

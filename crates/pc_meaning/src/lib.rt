@@ -3,8 +3,7 @@
 //! The definitions are `specs/Tree.antt`, `Values`, `Outcomes`, `Statements` and `Runs`, in this order; `specs/Programs.antt`
 //! takes a program with numbers for names there. `Meaning` keeps a program between two ticks, and its contract is that each
 //! tick is that of the definition; `meaning_of` gives the outputs of all ticks. The functions that begin with `a_`, `more_`
-//! and `what_` are laws. `run.rt` and `specs/Meaning.antt` have the meaning of small programs alone, and by
-//! `a_small_tree_means_the_same` it is that of the source.
+//! and `what_` are laws.
 #![tactic(auto)]
 
 mod cells;
@@ -13,7 +12,6 @@ mod layout;
 mod lefts;
 mod places;
 mod resuming;
-mod run;
 mod standing;
 mod starting;
 mod state;
@@ -22,10 +20,8 @@ mod values;
 mod writes;
 
 pub use laws::{
-    a_function_does_its_body, a_routine_never_pauses, a_small_program_means_the_same,
-    a_small_tree_is_its_program, a_small_tree_means_the_same, a_tree_finishes_alike,
-    a_tree_pauses_alike, more_functions_change_nothing, what_cannot_finish_pauses,
+    a_function_does_its_body, a_routine_never_pauses, a_tree_finishes_alike, a_tree_pauses_alike,
+    more_functions_change_nothing, what_cannot_finish_pauses,
 };
 pub use places::Room;
-pub use run::{inputs, meaning, outputs, starts};
 pub use state::{Meaning, meaning_of};

@@ -1,3 +1,4 @@
 pub mod Program
 pub mod Trees
 pub mod Limits
+pub mod Ports

@@ -7,9 +7,11 @@
 
 mod declarations;
 mod limits;
+mod ports;
 mod program;
 mod steps;
 mod trees;
 
+pub use ports::{inputs, outputs, starts};
 pub use program::{Cell, CellKind, Operand, Small, Step};
 pub use trees::{one_program, small_of};

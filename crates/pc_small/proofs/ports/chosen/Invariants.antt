@@ -1,7 +1,7 @@
 use Rattle.std.proofs.Common.{◌≡◌, ◌++◌, ◌<◌, All, length, drop, if◌then◌else◌}
 use Rattle.pc_small.specs.Program.{is_input, is_output}
-use Rattle.pc_meaning.specs.Meaning.{chosen_from}
-use Rattle.pc_meaning.proofs.run.chosen.Given as goal
+use Rattle.pc_small.specs.Ports.{chosen_from}
+use Rattle.pc_small.proofs.ports.chosen.Given as goal
 
 abbrev pub invariant-loop-i : goal.invariant-loop-i
 invariant-loop-i l = record {

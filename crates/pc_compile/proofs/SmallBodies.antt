@@ -1,6 +1,6 @@
 -- The statements of a small program's tree, with numbers for names, are those of the whole language; its `EOT`s are
 -- counted in the order of the text.
-use Rattle.std.proofs.Common.{◌≡◌, ℕ, ◌+◌, ◌<◌, ◌≤◌, true, false, List, [], ◌∷◌, ◌++◌, append_assoc, length-append, map, length, Option, Some, None, refl, sym, ap, subst, ◌∙◌, arith}
+use Rattle.std.proofs.Common.{suc, ◌≡◌, ℕ, ◌+◌, ◌<◌, ◌≤◌, true, false, List, [], ◌∷◌, ◌++◌, append_assoc, length-append, map, length, Option, Some, None, refl, sym, ap, subst, ◌∙◌, arith}
 use Rattle.std.specs.Prelude.{nat_lt, if◌then◌else◌}
 use Rattle.std.proofs.lemmas.Bool.Decides.{nat_tests}
 use Rattle.pt_base.specs.declared.Span.{Span}
@@ -20,14 +20,15 @@ use Rattle.pc_small.specs.declared.program.Operand.{Operand}
 use Rattle.pc_small.specs.declared.program.Step.{Step}
 use Rattle.pc_small.specs.declared.program.Step.TheVariants.{Assign, Pause}
 use Rattle.pc_small.specs.Trees.{put_first, each, cell_named, sum_of, goal_of, assigned, step_in, step_of}
-use Rattle.pc_meaning.specs.Meaning as short
+use Rattle.pc_compile.proofs.SmallMeaning as short
 use Rattle.pc_meaning.specs.Tree.{assign, to_cell, eot, each as then_all}
 use Rattle.pc_meaning.specs.Programs.{joined, eots_step, number_of, Numbering, statement_of, statements_of, expression_of}
-use Rattle.pc_meaning.specs.SmallPrograms.{sum_tree, body_tree}
+use Rattle.pc_compile.specs.Words.{step_words, pauses_from}
+use Rattle.pc_compile.proofs.SmallPrograms.{sum_tree, body_tree}
 use Rattle.pc_meaning.proofs.Trees.{statement-Assign, statement-Eot}
-use Rattle.pc_meaning.proofs.SmallCells.{Scalars}
-use Rattle.pc_meaning.proofs.SmallChains.{AssignsWhole, Sound, AllSound}
-use Rattle.pc_meaning.proofs.SmallSums.{number, rooms, place_is, sum_of_is}
+use Rattle.pc_compile.proofs.SmallCells.{Scalars}
+use Rattle.pc_compile.proofs.SmallChains.{AssignsWhole, Sound, AllSound}
+use Rattle.pc_compile.proofs.SmallSums.{number, rooms, place_is, sum_of_is}
 
 rolled : (s : Stmt Word) → roll-Stmt Word (out-Stmt Word s) ≡ s
 rolled = ind-Stmt Word (λ s. roll-Stmt Word (out-Stmt Word s) ≡ s) (λ x y is. subst (λ z. roll-Stmt Word (out-Stmt Word (roll-Stmt Word z)) ≡ roll-Stmt Word z) is (ap (roll-Stmt Word) (out-roll-Stmt Word _)))
@@ -168,6 +169,14 @@ module _ {declared : List Item} {cells : List Cell} (scalars : Scalars declared 
   eots_rise (more {s = s} {body = body} (pauses span is pauses_here has) d) from to h =
       let k : Rises from (span ∷ each_span statement_spans body) to = subst (λ l. Rises from (l ++ each_span statement_spans body) to) has h in
       subst (λ l. Rises from (l ++ eots_of body) to) (sym pauses_here) (k.0, k.1, eots_rise d span.to to k.2)
+
+  -- one for each step that pauses
+  pub eots_counted : {body : List (Stmt Word)} {steps : List Step} → AreSteps body steps → (at : ℕ) → length (pauses_from at steps) ≡ length (eots_of body)
+  eots_counted none at = refl
+  eots_counted (more {s = s} {body = body} (assigns goal os is pauses_not) d) at =
+      eots_counted d (at + length (step_words (Assign goal os))) ∙ sym (ap (λ l. length (l ++ eots_of body)) pauses_not)
+  eots_counted (more {s = s} {body = body} (pauses span is pauses_here has) d) at =
+      ap (λ n. suc n) (eots_counted d (at + 1)) ∙ sym (ap (λ l. length (l ++ eots_of body)) pauses_here)
 
   pub body_is : {body : List (Stmt Word)} {steps : List Step} → AreSteps body steps → (n : Numbering) (before : List Span) (from to : ℕ) →
       Below from before → Rises from (eots_of body) to → ((s : Span) → n.eot_number s ≡ number_of (before ++ eots_of body) s) →

@@ -7,15 +7,16 @@ use Rattle.pt_base.specs.declared.operators.BinOp.TheVariants.{Add}
 use Rattle.pc_small.specs.declared.program.Operand.{Operand}
 use Rattle.pc_small.specs.declared.program.Operand.TheVariants.{Constant, Read}
 use Rattle.pc_small.specs.Program as small
-use Rattle.pc_meaning.specs.Meaning as short
-use Rattle.pc_meaning.specs.Meaning.{Sum, Eot, Here, Seq, Unstarted, At, Ended}
+use Rattle.pc_compile.proofs.SmallMeaning as short
+use Rattle.pc_small.specs.Ports as ports
+use Rattle.pc_compile.proofs.SmallMeaning.{Sum, Eot, Here, Seq, Unstarted, At, Ended}
 use Rattle.pc_meaning.specs.Tree.{Statements, none, each, Routine}
 use Rattle.pc_meaning.specs.Values.{Store, value, operated, set_all}
 use Rattle.pc_meaning.specs.Outcomes as whole
 use Rattle.pc_meaning.specs.Outcomes.{Residual, before_rest, followed}
 use Rattle.pc_meaning.specs.Statements.{Known, start_all, resume, starts_of}
 use Rattle.pc_meaning.specs.Runs.{moment_of, went, ticked, before_ticks, moments_from}
-use Rattle.pc_meaning.specs.SmallPrograms.{operand_tree, added_tree, sum_tree, body_tree, program_tree, residual_tree, standing_tree, moment_tree}
+use Rattle.pc_compile.proofs.SmallPrograms.{operand_tree, added_tree, sum_tree, body_tree, program_tree, residual_tree, standing_tree, moment_tree}
 
 operand-same : (o : Operand) (store : Store) → value (operand_tree o) store ≡ short.value_of o store
 operand-same (Constant n) store = refl
@@ -84,9 +85,9 @@ module _ (p : small.Program) where
 
   ticked-same : (m : short.Moment) (row : List ℤ) → moment_tree (short.ticked p m row) ≡ ticked (program_tree p) (moment_tree m) row
   ticked-same m row =
-      outcome-moment (short.went p m.standing m.store (short.sampled (short.inputs_of p) row m.store))
-      ∙ ap moment_of (went-same m.standing m.store (short.sampled (short.inputs_of p) row m.store))
-      ∙ ap (λ store. moment_of (went (program_tree p) (standing_tree m.standing) m.store store)) (sampled-same (short.inputs_of p) row m.store)
+      outcome-moment (short.went p m.standing m.store (short.sampled (ports.inputs_of p) row m.store))
+      ∙ ap moment_of (went-same m.standing m.store (short.sampled (ports.inputs_of p) row m.store))
+      ∙ ap (λ store. moment_of (went (program_tree p) (standing_tree m.standing) m.store store)) (sampled-same (ports.inputs_of p) row m.store)
 
   moments-same : (m : short.Moment) (rows : List (List ℤ)) → map moment_tree (short.moments_from p m rows) ≡ moments_from (program_tree p) (moment_tree m) rows
   moments-same m [] = refl

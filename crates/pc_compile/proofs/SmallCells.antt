@@ -17,7 +17,7 @@ use Rattle.pc_small.specs.declared.program.CellKind.{CellKind as SmallKind}
 use Rattle.pc_small.specs.declared.program.CellKind.TheVariants.{Input as SmallInput, Output as SmallOutput, Plain as SmallPlain}
 use Rattle.pc_small.specs.Program as small
 use Rattle.pc_small.specs.Trees.{kind_of, cell_of, put_first, each}
-use Rattle.pc_meaning.specs.Meaning as short
+use Rattle.pc_small.specs.Ports as ports
 use Rattle.pc_meaning.specs.Programs.{rooms_from, place_of, declared_of, is_input, is_output, chosen}
 
 abbrev small_cell : SmallKind → ℤ → Cell
@@ -67,7 +67,7 @@ declared_same (more {cells = cells} kind name start is s) = ap (λ words. start 
 
 module _ (test : CellKind → Bool) (small_test : Cell → Bool) (same : (kind : CellKind) (k : SmallKind) (start : ℤ) → kind_of kind ≡ Some k → test kind ≡ small_test (small_cell k start)) where
   pub chosen_same : {declared : List Item} {cells : List Cell} → Scalars declared cells → (base : ℕ) →
-      chosen test (cells_of declared) (rooms_from base (cells_of declared)) ≡ short.chosen_from small_test base cells
+      chosen test (cells_of declared) (rooms_from base (cells_of declared)) ≡ ports.chosen_from small_test base cells
   chosen_same none base = refl
   chosen_same (more {declared = declared} {cells = cells} {k = k} kind name start is s) base =
       ap (λ b. if b then base ∷ chosen test (cells_of declared) (rooms_from (base + 1) (cells_of declared)) else chosen test (cells_of declared) (rooms_from (base + 1) (cells_of declared))) (same kind k start is)

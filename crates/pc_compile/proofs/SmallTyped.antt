@@ -1,5 +1,5 @@
 -- A small program's tree, with numbers for names, is that small program as one of the whole language.
-use Rattle.std.proofs.Common.{◌≡◌, ℕ, List, [], ◌∷◌, ◌++◌, append-nil, append_assoc, map, None, refl, sym, ap, subst, ◌∙◌}
+use Rattle.std.proofs.Common.{◌≡◌, ℕ, length, List, [], ◌∷◌, ◌++◌, append-nil, append_assoc, map, None, refl, sym, ap, subst, ◌∙◌}
 use Rattle.std.specs.Prelude.{ℤ, false}
 use Rattle.pt_base.specs.declared.Span.{Span}
 use Rattle.pc_ast.specs.declared.expressions.Word.{Word}
@@ -16,14 +16,15 @@ use Rattle.pc_typed.specs.Typing.{cells_of, function_number, typed_from, typing_
 use Rattle.pc_small.specs.Program as small
 use Rattle.pc_small.specs.Trees.{IsTreeOf}
 use Rattle.pc_meaning.specs.Tree.{Statements, Program}
-use Rattle.pc_meaning.specs.Programs.{rooms_from, is_input, is_output, chosen, declared_of, number_of, Numbering, numbering_of, program_of}
-use Rattle.pc_meaning.specs.Meaning as short
-use Rattle.pc_meaning.specs.Runs.{outputs_at, before_ticks, moments_from, meaning_of}
-use Rattle.pc_meaning.specs.SmallPrograms.{body_tree, program_tree, moment_tree}
-use Rattle.pc_meaning.proofs.SmallRuns.{small-same}
-use Rattle.pc_meaning.proofs.SmallCells.{Scalars, scalars, main, declared_same, chosen_same, input_same, output_same, cells_behind, functions_behind, main_behind}
-use Rattle.pc_meaning.proofs.SmallChains.{AllSound, sound_last}
-use Rattle.pc_meaning.proofs.SmallBodies.{rest_rises, AreSteps, are_steps, numbered_one, eots_of, eots_rise, body_is}
+use Rattle.pc_meaning.specs.Programs.{rooms_from, is_input, is_output, chosen, declared_of, eots_step, number_of, Numbering, numbering_of, program_of}
+use Rattle.pc_meaning.specs.Programs.{spans_of as spans_of_text}
+use Rattle.pc_compile.specs.Words.{pauses_from}
+use Rattle.pc_compile.proofs.SmallMeaning as short
+use Rattle.pc_small.specs.Ports as ports
+use Rattle.pc_compile.proofs.SmallPrograms.{body_tree, program_tree}
+use Rattle.pc_compile.proofs.SmallCells.{Scalars, scalars, main, declared_same, chosen_same, input_same, output_same, cells_behind, functions_behind, main_behind}
+use Rattle.pc_compile.proofs.SmallChains.{AllSound, sound_last}
+use Rattle.pc_compile.proofs.SmallBodies.{rest_rises, AreSteps, are_steps, numbered_one, eots_of, eots_rise, eots_counted, body_is}
 
 spans_both : (a b : List Item) → spans_of (a ++ b) ≡ spans_of a ++ spans_of b
 spans_both [] b = refl
@@ -69,7 +70,7 @@ module _ {declared : List Item} (p : small.Program) (s : Scalars declared p.cell
       ap (λ b. assembled b (declared_of (cells_of declared)) inputs outputs) (body_is s (function_number declared) steps numbering [] name.span.to end tt below counted)
       ∙ ap (λ d. assembled (body_tree (short.body_of p)) d inputs outputs) (declared_same s)
       ∙ ap (λ i. assembled (body_tree (short.body_of p)) (map (λ k. k.start) p.cells) i outputs) (chosen_same is_input small.is_input input_same s 0)
-      ∙ ap (λ o. assembled (body_tree (short.body_of p)) (map (λ k. k.start) p.cells) (short.inputs_of p) o) (chosen_same is_output small.is_output output_same s 0)
+      ∙ ap (λ o. assembled (body_tree (short.body_of p)) (map (λ k. k.start) p.cells) (ports.inputs_of p) o) (chosen_same is_output small.is_output output_same s 0)
 
   typed_is : AreSteps s (function_number declared) body p.steps → Rises 0 (spans_of items) end → program_of (typing_of items end) ≡ program_tree p
   unfolding typing_of
@@ -79,6 +80,14 @@ module _ {declared : List Item} (p : small.Program) (s : Scalars declared p.cell
       ∙ ap (λ fs. program_with (cells_of declared) fs (typing_of items end).main) functions
       ∙ ap (program_with (cells_of declared) (typed_main ∷ [])) (main_behind name body s)
       ∙ parts_same steps rises
+
+  pauses_are : AreSteps s (function_number declared) body p.steps → length (pauses_from 0 p.steps) ≡ length (spans_of_text eots_step (typing_of items end).functions)
+  unfolding typing_of
+  pauses_are steps =
+      let functions : typed_from items [] items ≡ typed_main ∷ [] = functions_behind name body s items [] in
+      eots_counted s (function_number declared) steps 0
+      ∙ ap length (sym (append-nil (eots_of s (function_number declared) body)))
+      ∙ sym (ap (λ fs. length (spans_of_text eots_step fs)) functions)
 
 pub tree_is : (program : grammar.Program) → grammar.IsTree program → (p : small.Program) → IsTreeOf program.items p → program_of (typing_of program.items program.length) ≡ program_tree p
 tree_is program tree p t =
@@ -90,18 +99,12 @@ tree_is program tree p t =
     let rises : Rises 0 (spans_of (t.declared ++ main name t.body ∷ [])) program.length = subst (λ l. Rises 0 (spans_of l) program.length) whole (rise program tree) in
     ap (λ l. program_of (typing_of l program.length)) whole ∙ typed_is p s name t.body program.length steps rises
 
--- ---- and means the same
-
-outputs_same : (p : small.Program) (moments : List short.Moment) → map (outputs_at (program_tree p)) (map moment_tree moments) ≡ map (λ m. short.words_at (short.outputs_of p) m.store) moments
-outputs_same p [] = refl
-outputs_same p (m ∷ moments) = ap (λ l. short.words_at (short.outputs_of p) m.store ∷ l) (outputs_same p moments)
-
-module _ (program : grammar.Program) (tree : grammar.IsTree program) (p : small.Program) (is : IsTreeOf program.items p) (rows : List (List ℤ)) where
-  abbrev whole : Program
-  whole = program_of (typing_of program.items program.length)
-
-  pub tree_stands : moments_from whole (before_ticks whole) rows ≡ map moment_tree (short.moments p rows)
-  tree_stands = ap (λ q. moments_from q (before_ticks q) rows) (tree_is program tree p is) ∙ sym (small-same p rows)
-
-  pub tree_shows : meaning_of whole rows ≡ short.meaning_of p rows
-  tree_shows = ap (λ q. meaning_of q rows) (tree_is program tree p is) ∙ ap (map (outputs_at (program_tree p))) (sym (small-same p rows)) ∙ outputs_same p (short.moments p rows)
+pub pauses_same : (program : grammar.Program) → grammar.IsTree program → (p : small.Program) → IsTreeOf program.items p
+    → length (pauses_from 0 p.steps) ≡ length (spans_of_text eots_step (typing_of program.items program.length).functions)
+pauses_same program tree p t =
+    let name : Word = t.parts.main.name in
+    let whole : program.items ≡ t.declared ++ main name t.body ∷ [] = t.parts.whole ∙ ap (λ i. t.declared ++ i ∷ []) t.parts.main.is in
+    let s = scalars t.declared p.cells t.cells in
+    let sound : AllSound t.body = sound_last t.declared (main name t.body) (subst (IsProgram tree.source tree.tokens) whole tree.spelled) in
+    let steps = are_steps s (function_number t.declared) t.body p.steps t.steps sound in
+    pauses_are p s name t.body program.length steps ∙ sym (ap (λ l. length (spans_of_text eots_step (typing_of l program.length).functions)) whole)

@@ -25,10 +25,10 @@ use Rattle.pc_small.specs.Trees.{put_first, each, name_of, is_named, cell_named,
 use Rattle.pc_meaning.specs.declared.places.Room.{Room}
 use Rattle.pc_meaning.specs.Tree.{cell, chain, operand}
 use Rattle.pc_meaning.specs.Programs.{rooms_from, place_of, expression_of, operands_of}
-use Rattle.pc_meaning.specs.SmallPrograms.{operand_tree, added_tree, sum_tree}
+use Rattle.pc_compile.proofs.SmallPrograms.{operand_tree, added_tree, sum_tree}
 use Rattle.pc_meaning.proofs.Trees.{expression-Number, expression-Var, expression-Chain}
-use Rattle.pc_meaning.proofs.SmallCells.{Scalars, cells_until, room_is}
-use Rattle.pc_meaning.proofs.SmallChains.{HasOperator}
+use Rattle.pc_compile.proofs.SmallCells.{Scalars, cells_until, room_is}
+use Rattle.pc_compile.proofs.SmallChains.{HasOperator}
 
 -- ---- names
 

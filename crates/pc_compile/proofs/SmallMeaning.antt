@@ -1,13 +1,13 @@
--- What a program does, tick by tick: docs/language.md, "The meaning of a program".
-use Rattle.std.specs.Prelude.{ℕ, ◌+◌, ℤ, pos, Bool, if◌then◌else◌, List, [], ◌∷◌, map, slice_set, slice_index_or}
+-- What a small program does, tick by tick, in statements as few as it has: by `small-same` it is what the program of the whole language does.
+use Rattle.std.specs.Prelude.{ℕ, ◌+◌, ℤ, pos, List, [], ◌∷◌, map, slice_set, slice_index_or}
 use Rattle.pt_base.specs.Operators.{word_of, binary_of}
 use Rattle.pt_base.specs.declared.operators.BinOp.TheVariants.{Add}
-use Rattle.pc_small.specs.declared.program.Cell.{Cell}
 use Rattle.pc_small.specs.declared.program.Operand.{Operand}
 use Rattle.pc_small.specs.declared.program.Operand.TheVariants.{Constant, Read}
 use Rattle.pc_small.specs.declared.program.Step.{Step}
 use Rattle.pc_small.specs.declared.program.Step.TheVariants.{Assign, Pause}
-use Rattle.pc_small.specs.Program.{Program, is_input, is_output}
+use Rattle.pc_small.specs.Program.{Program}
+use Rattle.pc_small.specs.Ports.{inputs_of, outputs_of}
 
 -- the words of the cells, in order of declaration
 abbrev pub Store : Type 0
@@ -84,17 +84,6 @@ pub record Moment : Type 0 where
 abbrev pub moment_of : Outcome → Moment
 moment_of (Done store) = record { standing = Ended; store = store }
 moment_of (Paused residual store) = record { standing = At residual; store = store }
-
--- the places of the cells that pass a test, counted from a number
-abbrev pub chosen_from : (Cell → Bool) → ℕ → List Cell → List ℕ
-chosen_from test place [] = []
-chosen_from test place (cell ∷ cells) = if test cell then place ∷ chosen_from test (place + 1) cells else chosen_from test (place + 1) cells
-
-abbrev pub inputs_of : Program → List ℕ
-inputs_of program = chosen_from is_input 0 program.cells
-
-abbrev pub outputs_of : Program → List ℕ
-outputs_of program = chosen_from is_output 0 program.cells
 
 -- the inputs' words are set in order
 abbrev pub sampled : List ℕ → List ℤ → Store → Store

@@ -1,6 +1,6 @@
 use Rattle.std.proofs.Common.{◌≡◌, map, take, All, FitsSigned}
 use Rattle.std.specs.Int.{w32}
-use Rattle.pc_meaning.proofs.run.starts.Given as goal
+use Rattle.pc_small.proofs.ports.starts.Given as goal
 
 abbrev pub invariant-loop-cell : goal.invariant-loop-cell
 invariant-loop-cell l = record {

@@ -4,8 +4,9 @@ use Rattle.pt_base.specs.declared.operators.BinOp.TheVariants.{Add}
 use Rattle.pc_small.specs.declared.program.Operand.{Operand}
 use Rattle.pc_small.specs.declared.program.Operand.TheVariants.{Constant, Read}
 use Rattle.pc_small.specs.Program as small
-use Rattle.pc_meaning.specs.Meaning as short
-use Rattle.pc_meaning.specs.Meaning.{Sum, Eot, Here, Seq, Unstarted, At, Ended}
+use Rattle.pc_compile.proofs.SmallMeaning as short
+use Rattle.pc_small.specs.Ports as ports
+use Rattle.pc_compile.proofs.SmallMeaning.{Sum, Eot, Here, Seq, Unstarted, At, Ended}
 use Rattle.pc_meaning.specs.Tree.{Expression, Operands, number, cell, chain, alone, operand, to_cell, Statement, Statements, assign, eot, none, each, Routine, Program}
 use Rattle.pc_meaning.specs.Outcomes.{Residual, here, before_rest}
 use Rattle.pc_meaning.specs.Runs as runs
@@ -41,8 +42,8 @@ program_tree p = record {
   routines = main_tree p ∷ [];
   main = 0;
   declared = map (λ k. k.start) p.cells;
-  inputs = short.inputs_of p;
-  outputs = short.outputs_of p;
+  inputs = ports.inputs_of p;
+  outputs = ports.outputs_of p;
 }
 
 abbrev pub residual_tree : short.Residual → Residual

@@ -1,9 +1,9 @@
 -- Acceptance as relations between places, as the proofs go through it. Loops stand innermost first.
 use Rattle.std.specs.Prelude.{length, ◌≡◌, ◌⊎◌, ◌≤◌, ◌<◌, ℕ, ℤ, zero, suc, ◌+◌, ◌*◌, ◌++◌, min, Bool, true, false, List, [], ◌∷◌, Option, Some, None}
-use Rattle.mb_pfu.specs.Tree.{Tree, has_ready}
+use Rattle.mb_pfu.specs.Tree.{Tree}
 use Rattle.tk_bound.specs.declared.word.Word.{Word}
 use Rattle.tk_bound.specs.declared.word.Word.TheVariants.{Does, Imm, Jump, Branch, Eot, Fork, End, Abrt, Leave, Call, Ret, Loop, Next, Drop, Cend}
-use Rattle.tk_bound.proofs.Inner.{Image, State, Traps, IsConfiguration, Step, Path, Guided, InTurns, begun_free}
+use Rattle.tk_bound.proofs.Inner.{Image, State, Traps, IsConfiguration, Step, Path, begun_free}
 use Rattle.mb_pfu.specs.declared.parts.TrapKind.{TrapKind}
 use Rattle.mb_isa.specs.declared.Class.TheVariants as class
 use Rattle.tk_bound.specs.declared.view.Side.{Side}
@@ -248,11 +248,3 @@ pub record BoundsFreeTicks (image : Image) (bound : ℕ) : Type 0 where
   pub charged : (t : Tree) (choices : List Bool) (n : ℕ) (s : State) → IsConfiguration image t → Path image (begun_free image t choices) n s → image.base + n ≤ bound
   pub untrapped : (t : Tree) (choices : List Bool) (n : ℕ) (s : State) (kind : TrapKind) →
       IsConfiguration image t → Path image (begun_free image t choices) n s → Step image s (Traps kind) → ⊥
-
--- The same of a machine that takes each choice by its registers and memory; and where no slot is ready, the next tick may begin.
-pub record BoundsGuided (image : Image) (bound : ℕ) : Type 0 where
-  pub charged : (t : Tree) (n : ℕ) (s : State) → IsConfiguration image t → Guided image (begun_free image t []) n s → image.base + n ≤ bound
-  pub untrapped : (t : Tree) (choices : List Bool) (n : ℕ) (s : State) (kind : TrapKind) →
-      IsConfiguration image t → Guided image (begun_free image t []) n s → Step image (record s { choices = choices }) (Traps kind) → ⊥
-  pub goes_on : (t : Tree) (n : ℕ) (s : State) → IsConfiguration image t → Guided image (begun_free image t []) n s → s.phase ≡ InTurns → has_ready s.tree ≡ false →
-      IsConfiguration image s.tree × (s.links ≡ []) × (s.counters ≡ []) × (s.upper ≡ None)

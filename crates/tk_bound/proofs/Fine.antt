@@ -370,9 +370,6 @@ module _ (image : Parts) (cert : CertParts) (costs : List ℕ) (a : Accepts imag
     fine-cend : Here place line Cend → IsFineWritten E D place (kind_of line) Cend
     fine-cend x = let v = cond-view line x.stands in (cond-kind line x.stands, closed class.Cend v (x.edged Value v))
 
-    reversed : List ℕ
-    reversed = reverse (loops_of line)
-
     fine-loop : (turns : ℕ) → Here place line (Loop turns) → IsFineWritten E D place (kind_of line) (Loop turns)
     fine-loop turns x =
         let w = Loop turns in

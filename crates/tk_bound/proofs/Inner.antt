@@ -201,11 +201,6 @@ module _ (image : Image) where
     still : {s : State} → Path s 0 s
     onward : {s last : State} {rest : ℕ} (charge : ℕ) (next : State) → Step s (Goes charge next) → Path next rest last → Path s (charge + rest) last
 
-  -- a path whose steps each take their own choices, as a machine's do by its registers and memory
-  pub data Guided : State → ℕ → State → Type 0 where
-    still_guided : {s : State} → Guided s 0 s
-    guided : {s last : State} {rest : ℕ} (choices : List Bool) (charge : ℕ) (next : State) → Step (record s { choices = choices }) (Goes charge next) → Guided next rest last → Guided s (charge + rest) last
-
   -- the entries are those of the table
   abbrev pub IsListed : Watch → Type 0
   IsListed l = (l.entry.weak ≡ image.weak l.entry.number) × (l.entry.cond ≡ image.cond l.entry.number) × (l.entry.handler ≡ image.handler l.entry.number)

@@ -123,6 +123,3 @@ module _ (image : Image) (cert : Cert) (accepted : IsAccepted image cert) where
 
     pub pauses : IsRight image cert s (pause_at place (Leaf watches (Running place))) × Dom (image.cost class.Eot) Here (Val image cert (pause_at place (Leaf watches (Running place))))
     pauses = pauses-by (relief watches) refl
-
-    pub is-listed : image.is_pause place s (stack watches) ≡ true
-    is-listed = fine.1.0

@@ -12,10 +12,10 @@ use Rattle.tk_bound.proofs.Inner.{Image, stack, begun, IsSound, occurs, occurs_a
 use Rattle.tk_bound.proofs.Conditions.{Cert, Line, Thread, IsAccepted}
 use Rattle.tk_bound.proofs.Rights.{IsWaiting, IsRight, AreRight}
 
-one-same : (k c : ℕ) → k ≡ c → one (k == c) ≡ 1
+pub one-same : (k c : ℕ) → k ≡ c → one (k == c) ≡ 1
 one-same k c e = grind (arith, nat_tests)
 
-one-other : (k c : ℕ) → (k ≡ c → ⊥) → one (k == c) ≡ 0
+pub one-other : (k c : ℕ) → (k ≡ c → ⊥) → one (k == c) ≡ 0
 one-other k c e = grind (arith, nat_tests)
 
 module _ (image : Image) where
@@ -170,7 +170,7 @@ module _ (image : Image) where
     either (suc a) b h = inl (omega arith)
 
     mutual
-      below : (c k : ℕ) (t : Tree) → IsRight image cert k t → 1 ≤ count c k t → (k ≡ c) ⊎ IsBelow c k (λ p. waiting p k t)
+      pub below : (c k : ℕ) (t : Tree) → IsRight image cert k t → 1 ≤ count c k t → (k ≡ c) ⊎ IsBelow c k (λ p. waiting p k t)
       below c k (Leaf watches activity) r h = ⊎_elim (λ e. inl e) (λ e. absurd (let o = one-other k c e in omega (arith, o, h))) (cases_eq k c)
       below c k (Waits watches at lo group) r h =
           ⊎_elim (λ e. inl e)
@@ -195,7 +195,7 @@ module _ (image : Image) where
           (λ b. inr (wider c (k + 1) k (λ p. waiting_among p (k + 1) ts) (λ p. waiting_among p k (member t ts)) (λ p. omega arith) b)) (below-among c (k + 1) ts r.1 a))
           (either (count c k t) (counts c (k + 1) ts) h)
 
-    abbrev slot_in : Line → ℕ
+    abbrev pub slot_in : Line → ℕ
     slot_in (Thread s a l) = s
     slot_in other = 0
 

@@ -52,7 +52,7 @@ use Rattle.tk_bound.proofs.Accepted.{abort-there}
 use Rattle.tk_bound.proofs.Turns.{middle-same, last-reverse, reverse-none, plug-occurs, free-children, watches-are, paused-is, finished-is, forked-is, entered-is, left-is}
 use Rattle.tk_bound.proofs.Controls.{E, D, sums, IsTurnAt, IsGood, IsPlanGood, turns-good}
 
-busy-same : (t u : Tree) → ((c : ℕ) → occurs c 0 t ≡ occurs c 0 u) → (n lo : ℕ) → is_busy lo n t ≡ is_busy lo n u
+pub busy-same : (t u : Tree) → ((c : ℕ) → occurs c 0 t ≡ occurs c 0 u) → (n lo : ℕ) → is_busy lo n t ≡ is_busy lo n u
 busy-same t u h zero lo = refl
 busy-same t u h (suc n) lo = ap (λ b. b || is_busy (lo + 1) n t) (h lo) ∙ ap (λ b. occurs lo 0 u || b) (busy-same t u h n (lo + 1))
 
@@ -100,7 +100,7 @@ module _ (image : Parts) (cert : CertParts) (costs : List ℕ) (a : Accepts imag
   G = D image cert costs a
 
   -- the children of a fork
-  starts-are : (n lo : ℕ) → lo + n ≤ length image.slots → (tree.begun (take n (drop lo image.slots)) ≡ begun F lo n) × (length (take n (drop lo image.slots)) ≡ n)
+  pub starts-are : (n lo : ℕ) → lo + n ≤ length image.slots → (tree.begun (take n (drop lo image.slots)) ≡ begun F lo n) × (length (take n (drop lo image.slots)) ≡ n)
   starts-are zero lo h = (refl, refl)
   starts-are (suc n) lo h =
       let r = starts-are n (lo + 1) (omega (arith, h)) in

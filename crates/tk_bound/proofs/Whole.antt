@@ -9,8 +9,8 @@ use Rattle.tk_bound.proofs.Slots.{middle, Judged, Cut, Kept, judged, judged_tree
 use Rattle.mb_pfu.specs.Rows.{renewed}
 use Rattle.tk_bound.specs.declared.word.Word.{Word}
 use Rattle.tk_bound.specs.declared.word.Word.TheVariants.{Does, Imm, Jump, Branch, Eot, Fork, End, Abrt, Leave, Call, Ret, Loop, Next, Drop, Cend}
-use Rattle.tk_bound.proofs.Inner.{Image, State, Outcome, Goes, Traps, Stops, Phase, Testing, InTest, InTurns, stack, IsSound, test_next, test_at, test_effect, chosen, answer, turn_at, StepIn, Step, Path, still, onward, Guided, still_guided, guided, IsLoose, IsConfiguration, first, loose, begun_free}
-use Rattle.tk_bound.proofs.Conditions.{upper_at, Cert, Line, Thread, Cond, IsBare, Reach, both_sides, loops_of, Ends, Over, With, Resumes, IsFine, IsAccepted, BoundsFreeTicks, BoundsGuided}
+use Rattle.tk_bound.proofs.Inner.{Image, State, Outcome, Goes, Traps, Stops, Phase, Testing, InTest, InTurns, stack, IsSound, test_next, test_at, test_effect, chosen, answer, turn_at, StepIn, Step, Path, still, onward, IsLoose, IsConfiguration, first, loose, begun_free}
+use Rattle.tk_bound.proofs.Conditions.{upper_at, Cert, Line, Thread, Cond, IsBare, Reach, both_sides, loops_of, Ends, Over, With, Resumes, IsFine, IsAccepted, BoundsFreeTicks}
 use Rattle.tk_bound.specs.declared.view.Side.{Side}
 use Rattle.tk_bound.specs.declared.view.View.TheVariants.{Value}
 use Rattle.tk_bound.proofs.Values.{old, Val, Around, FVal, CVal}
@@ -66,13 +66,13 @@ module _ (image : Image) where
         let b = answered-tally-among fired c (k + 1) ts in
         some-tally-among c k (tally_group c k (member t ts)) (next_cond t) (member (test_answered fired t) ts) (member t (test_answered_among fired ts)) (omega (arith, a)) (omega (arith, b))
 
-  sound-answered : (fired : Bool) (t : Tree) → IsSound image t → IsSound image (test_answered fired t)
+  pub sound-answered : (fired : Bool) (t : Tree) → IsSound image t → IsSound image (test_answered fired t)
   sound-answered fired t s = sound-less image t (test_answered fired t) (λ c. answered-tally fired c 0 t) s
 
-  sound-each : (h : List Watch → List Watch) (d : Activity → Activity) (t : Tree) → IsSound image t → IsSound image (each_slot h d t)
+  pub sound-each : (h : List Watch → List Watch) (d : Activity → Activity) (t : Tree) → IsSound image t → IsSound image (each_slot h d t)
   sound-each h d t s = sound-less image t (each_slot h d t) (λ c. let e = each-tally h d c 0 t in omega (arith, e)) s
 
-  sound-one : (watches : List Watch) (activity : Activity) → IsSound image (Leaf watches activity)
+  pub sound-one : (watches : List Watch) (activity : Activity) → IsSound image (Leaf watches activity)
   sound-one watches activity c = by (0 == c)
     where
       by : (b : Bool) → nat_le (one b) 1 ≡ true
@@ -343,24 +343,4 @@ module _ (image : Image) (cert : Cert) (accepted : IsAccepted image cert) where
         let b : image.base + (0 + n) ≤ cert.bound = kept-within (0 + n) s.tree s.links s.counters s.upper s.phase (path-kept 0 n (begun_free image t choices) s (begun-kept t choices c) path) in
         omega (arith, b);
     untrapped = λ t choices n s kind c path step. step-kept (0 + n) s (Traps kind) (path-kept 0 n (begun_free image t choices) s (begun-kept t choices c) path) step;
-  }
-
-  guided-kept : (charged n : ℕ) (s last : State) → IsKept charged s → Guided image s n last → IsKept (charged + n) last
-  guided-kept charged n s last k still_guided = let K : ℕ → Type 0 = λ m. IsKept m last in let e : charged ≡ charged + 0 = omega arith in subst K e k
-  guided-kept charged n s last k (guided {rest = rest} choices charge next step more) =
-      let K : ℕ → Type 0 = λ m. IsKept m last in
-      let e : charged + charge + rest ≡ charged + (charge + rest) = omega arith in
-      subst K e (guided-kept (charged + charge) rest next last (step-kept charged (record s { choices = choices }) (Goes charge next) k step) more)
-
-  pub bounds_guided : BoundsGuided image cert.bound
-  bounds_guided = record {
-    charged = λ t n s c path.
-        let b : image.base + (0 + n) ≤ cert.bound = kept-within (0 + n) s.tree s.links s.counters s.upper s.phase (guided-kept 0 n (begun_free image t []) s (begun-kept t [] c) path) in
-        omega (arith, b);
-    untrapped = λ t choices n s kind c path step. step-kept (0 + n) (record s { choices = choices }) (Traps kind) (guided-kept 0 n (begun_free image t []) s (begun-kept t [] c) path) step;
-    goes_on = λ t n s c path phase quiet.
-        let K : Phase → Type 0 = IsKeptIn (0 + n) s.tree s.links s.counters s.upper in
-        let k : IsTurned image cert (0 + n) s.tree s.links s.counters s.upper = subst K phase (guided-kept 0 n (begun_free image t []) s (begun-kept t [] c) path) in
-        let f = turned-rests image cert (0 + n) s.tree s.links s.counters s.upper k quiet in
-        (f.configuration, f.links_are, f.counters_are, f.upper_is);
   }

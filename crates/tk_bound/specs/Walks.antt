@@ -8,9 +8,9 @@ use Rattle.mb_pfu.specs.Unit as unit
 use Rattle.pt_image.specs.declared.Parts.{Parts}
 use Rattle.mb_step.specs.Free.{free, IsConfiguration}
 use Rattle.mb_step.specs.Tick.{Ends, tick}
-use Rattle.tk_free.specs.declared.walk.State.{State}
-use Rattle.tk_free.specs.declared.walk.State.TheVariants.{Free, Start, Paused, Waiting, Ended}
-use Rattle.tk_free.specs.declared.walk.Walk.{Walk}
+use Rattle.tk_cert.specs.declared.cert.State.{State}
+use Rattle.tk_cert.specs.declared.cert.State.TheVariants.{Free, Start, Paused, Waiting, Ended}
+use Rattle.tk_cert.specs.declared.cert.Walk.{Walk}
 use Rattle.tk_cert.specs.declared.cert.CertParts.{CertParts}
 use Rattle.tk_bound.specs.Bounded.{IsAcceptedFor}
 

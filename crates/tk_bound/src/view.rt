@@ -9,7 +9,7 @@ pub enum Side {
 #[derive(Clone, Copy)]
 pub enum View {
     /// Of a thread's, that of a side at a level.
-    On { side: Side, level: u32 },
+    On { side: Side, level: usize },
     /// Of a routine's or a condition's, its only one.
     Value,
 }

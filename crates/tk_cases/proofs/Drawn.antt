@@ -2,7 +2,7 @@
 use Rattle.std.proofs.Common.{◌≡◌, ℕ, pos, true, false, List, [], ◌∷◌, Option, Some, None, refl}
 use Rattle.std.specs.Prelude.{option_map}
 use Rattle.pt_image.specs.declared.Parts.{Parts}
-use Rattle.tk_free.specs.declared.walk.Walk.{Walk}
+use Rattle.tk_cert.specs.declared.cert.Walk.{Walk}
 use Rattle.tk_cert.specs.declared.cert.Line.TheVariants.{Bare, Thread, Routine, Cond}
 use Rattle.tk_cert.specs.declared.cert.CertParts.{CertParts}
 use Rattle.tk_cert.specs.Demands.{Demand, first_failing}

@@ -3,7 +3,7 @@ use Rattle.std.proofs.Common.{◌≡◌, ℕ, ◌≤◌, cond, leb, List, [], �
 use Rattle.std.proofs.lemmas.List.{append-nil}
 use Rattle.pt_lines.specs.Spelling.{joined, count_text, lines_text}
 use Rattle.pt_lines.proofs.FormLaws.{Group}
-use Rattle.tk_free.specs.declared.walk.Walk.{Walk}
+use Rattle.tk_cert.specs.declared.cert.Walk.{Walk}
 use Rattle.tk_cert.specs.declared.cert.Line.{Line}
 use Rattle.tk_cert.specs.declared.cert.CertParts.{CertParts}
 use Rattle.tk_cert.specs.Text.{groups, line_text, weight_text, slot_text, walk_text}

@@ -6,9 +6,9 @@ use Rattle.pt_lines.specs.Spelling.{each, number_text, count_text, lines_text}
 use Rattle.pt_lines.specs.Reading.{◌>>=◌, past_at, number_then_at, many_at, count_at, lines_at}
 use Rattle.pt_lines.proofs.Laws.{Reads, Anything, bind_some, some_is, test_some, chosen, past_found, many_found, many_again}
 use Rattle.pt_lines.proofs.FieldLaws.{number_then_reads, count_reads, lines_read}
-use Rattle.tk_free.specs.declared.walk.State.{State}
-use Rattle.tk_free.specs.declared.walk.State.TheVariants.{Free, Start, Paused, Waiting, Ended}
-use Rattle.tk_free.specs.declared.walk.Walk.{Walk}
+use Rattle.tk_cert.specs.declared.cert.State.{State}
+use Rattle.tk_cert.specs.declared.cert.State.TheVariants.{Free, Start, Paused, Waiting, Ended}
+use Rattle.tk_cert.specs.declared.cert.Walk.{Walk}
 use Rattle.tk_cert.specs.declared.cert.Line.{Line}
 use Rattle.tk_cert.specs.Shapes.{RiseFrom}
 use Rattle.tk_cert.specs.Text.{optional_text, line_text, weight_text, slot_text, state_text, choice_text, choices_text, walk_text}

@@ -9,9 +9,9 @@ use Rattle.pt_lines.specs.Spelling.{each, joined, number_text, list_text, number
 use Rattle.pt_lines.specs.Forms.{Begins, IsFault}
 use Rattle.pt_lines.proofs.Lengths.{Medium, each_short, number_short, list_short, numbers_short, lines_short}
 use Rattle.pt_lines.proofs.FormLaws.{Known, Outcome, whole_begins}
-use Rattle.tk_free.specs.declared.walk.State.{State}
-use Rattle.tk_free.specs.declared.walk.State.TheVariants.{Free, Start, Paused, Waiting, Ended}
-use Rattle.tk_free.specs.declared.walk.Walk.{Walk}
+use Rattle.tk_cert.specs.declared.cert.State.{State}
+use Rattle.tk_cert.specs.declared.cert.State.TheVariants.{Free, Start, Paused, Waiting, Ended}
+use Rattle.tk_cert.specs.declared.cert.Walk.{Walk}
 use Rattle.tk_cert.specs.declared.fault.CertFault.{CertFault}
 use Rattle.tk_cert.specs.declared.fault.CertFault.TheVariants.{Form, Memory}
 use Rattle.tk_cert.specs.declared.cert.Line.{Line}

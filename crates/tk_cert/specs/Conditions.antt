@@ -6,10 +6,9 @@ use Rattle.std.specs.Cmp.Lexicographic.{pointwise}
 use Rattle.mb_isa.specs.declared.Instr.{Instr}
 use Rattle.mb_isa.specs.declared.Instr.TheVariants.{Addk, Addik, Imm, Bri, Lwi, Swi, Eot, End}
 use Rattle.mb_isa.specs.Classes.{class_of, takes_upper}
-use Rattle.mb_isa.specs.Costs.{cost_of}
+use Rattle.mb_isa.specs.Costs.{cost_of, tick_charge}
 use Rattle.pt_image.specs.declared.Point.{Point}
 use Rattle.pt_image.specs.declared.Parts.{Parts}
-use Rattle.mb_core.specs.Tick.{base_of}
 use Rattle.tk_cert.specs.declared.cert.Line.{Line}
 use Rattle.tk_cert.specs.declared.cert.Line.TheVariants.{Bare, Thread}
 use Rattle.tk_cert.specs.declared.cert.CertParts.{CertParts}
@@ -182,7 +181,7 @@ beginnings image cert =
 
 -- A7: the bound covers what the tick itself is charged and the greatest of its beginnings.
 abbrev pub bounded : Parts → CertParts → List ℕ → List Demand
-bounded image cert costs = at_least 7 0 0 (Some cert.bound) (Some (base_of image costs + greatest (beginnings image cert)))
+bounded image cert costs = at_least 7 0 0 (Some cert.bound) (Some (tick_charge costs (length image.inputs) (length image.outputs) + greatest (beginnings image cert)))
 
 -- what all conditions ask, in the order in which a failing demand is looked for
 abbrev pub demands : Parts → CertParts → List ℕ → List Demand

@@ -9,7 +9,7 @@ use Rattle.mb_isa.specs.Candidates.{decoded}
 use Rattle.mb_isa.specs.Classes.{class_of}
 use Rattle.pt_image.specs.declared.Point.{Point}
 use Rattle.pt_image.specs.declared.Parts.{Parts}
-use Rattle.mb_core.specs.Words.{immediate, is_good, branch_byte}
+use Rattle.mb_isa.specs.Operands.{immediate, is_good, branch_byte}
 use Rattle.tk_cert.specs.declared.cert.Line.{Line}
 use Rattle.tk_cert.specs.declared.cert.Line.TheVariants.{Bare, Thread}
 

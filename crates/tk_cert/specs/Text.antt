@@ -2,9 +2,9 @@
 use Rattle.std.specs.Prelude.{ℕ, Bool, true, false, List, [], ◌∷◌, ◌++◌, length, codes, Option, Some, None}
 use Rattle.std.specs.Fmt.{decimal}
 use Rattle.pt_lines.specs.Spelling.{each, joined, number_text, list_text, numbers_text, count_text, lines_text}
-use Rattle.tk_free.specs.declared.walk.State.{State}
-use Rattle.tk_free.specs.declared.walk.State.TheVariants.{Free, Start, Paused, Waiting, Ended}
-use Rattle.tk_free.specs.declared.walk.Walk.{Walk}
+use Rattle.tk_cert.specs.declared.cert.State.{State}
+use Rattle.tk_cert.specs.declared.cert.State.TheVariants.{Free, Start, Paused, Waiting, Ended}
+use Rattle.tk_cert.specs.declared.cert.Walk.{Walk}
 use Rattle.tk_cert.specs.declared.cert.Line.{Line}
 use Rattle.tk_cert.specs.declared.cert.Line.TheVariants.{Bare, Thread, Routine, Cond}
 use Rattle.tk_cert.specs.declared.cert.CertParts.{CertParts}

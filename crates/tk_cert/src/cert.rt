@@ -3,7 +3,6 @@ ghost use Rattle.tk_cert.specs.Shapes.{IsCert};
 
 use pt_base::Many;
 use std::marker::Model;
-use tk_free::Walk;
 
 /// What a certificate says of a code place. A number is `None` where there is none.
 #[derive(Drop)]
@@ -28,6 +27,28 @@ pub enum Line {
     Cond {
         value: u64,
     },
+}
+
+/// What a slot does as a free tick begins.
+#[derive(Clone, Copy, Debug, PartialEq, Eq)]
+pub enum State {
+    /// It belongs to no group.
+    Free,
+    /// It is ready at its start.
+    Start,
+    /// It is paused at this code place.
+    Paused(u32),
+    /// It waits at this code place for the group that it forked.
+    Waiting(u32),
+    /// It has ended.
+    Ended,
+}
+
+/// A free tick: the state of each slot as it begins, and which way each choice goes.
+#[derive(Drop)]
+pub struct Walk {
+    pub states: Many<State>,
+    pub choices: Many<bool>,
 }
 
 /// The lists of a certificate: the bound, a line for each code place, the weights of the places of loops, the numbers

@@ -15,7 +15,7 @@ mod walk;
 mod write;
 mod writing;
 
-pub use cert::{Cert, CertParts, Line};
+pub use cert::{Cert, CertParts, Line, State, Walk};
 pub use fault::CertFault;
 pub use plain::is_plain;
 

@@ -6,7 +6,7 @@ use crate::line::TOO_LARGE;
 use pt_base::Many;
 use pt_lines::{Unread, count_line, number_then, past};
 use std::alloc::Global;
-use tk_free::{State, Walk};
+use crate::cert::{State, Walk};
 
 // A place behind a blank with its line feed, and what follows them.
 #[tactic(auto, unfolding(crate::specs::Reading::place_at))]

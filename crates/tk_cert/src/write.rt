@@ -6,7 +6,7 @@ use crate::writing::{put_choices, put_lines, put_slots, put_states, put_weights}
 use pt_base::{Memory, Text};
 use pt_lines::put_count;
 use std::alloc::{AllocError, Global};
-use tk_free::Walk;
+use crate::cert::Walk;
 
 // Puts a walk at the end.
 #[tactic(auto, using(crate::proofs::Putting::in_order))]

@@ -5,7 +5,7 @@ ghost use Rattle.tk_cert.specs.Text.{optional_text, level_text, thread_text, rou
 use crate::cert::Line;
 use pt_lines::{put_list, put_number, put_number_then, put_numbers};
 use std::alloc::AllocError;
-use tk_free::State;
+use crate::cert::State;
 
 // Puts a number, or `-` for none, at the end.
 #[tactic(auto, using(crate::proofs::Putting::in_order))]

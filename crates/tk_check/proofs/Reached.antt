@@ -2,7 +2,7 @@
 use Rattle.std.proofs.Common.{◌≡◌, ◌+◌, ℕ, List, refl, sym, ap, ◌∙◌, subst, true, false, ◌↔◌, ◌==◌}
 use Rattle.std.proofs.lemmas.Bool.{eqb-true, eq-eqb}
 use Rattle.pt_image.specs.declared.Parts.{Parts}
-use Rattle.tk_free.specs.declared.walk.Walk.{Walk}
+use Rattle.tk_cert.specs.declared.cert.Walk.{Walk}
 use Rattle.tk_free.specs.Free.{FreeState, Rests, Path, still, onward}
 use Rattle.tk_free.specs.Walks.{IsCostOf}
 use Rattle.tk_free.proofs.Paths.{after-step}

@@ -15,8 +15,8 @@ use Rattle.mb_core.specs.Words.{is_listed, is_pause_of}
 use Rattle.mb_core.specs.Tick.{first_ready, base_of}
 use Rattle.mb_core.specs.Plain.{IsPlain}
 use Rattle.mb_core.proofs.PlainWords.{empty_of}
-use Rattle.tk_free.specs.declared.State.{State}
-use Rattle.tk_free.specs.declared.State.TheVariants.{Free, Start, Paused, Waiting, Ended}
+use Rattle.tk_cert.specs.declared.State.{State}
+use Rattle.tk_cert.specs.declared.State.TheVariants.{Free, Start, Paused, Waiting, Ended}
 use Rattle.tk_free.specs.Configurations.{IsFirst, IsLoose, IsConfiguration, begun_slot, begun_slots}
 use Rattle.tk_free.specs.Free.{FreeState, FreeStep, Goes, Traps, free_step, Steps, Path, still, onward, begun_free}
 use Rattle.tk_free.specs.Walks.{IsCostOf, IsWorst}

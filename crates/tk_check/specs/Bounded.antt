@@ -6,7 +6,7 @@ use Rattle.mb_pfu.specs.declared.TrapKind.TheVariants.{BadAddress}
 use Rattle.pt_image.specs.declared.Parts.{Parts}
 use Rattle.mb_step.specs.Run.{Ticked, Ends, Trapped, run_of}
 use Rattle.mb_core.specs.Tick.{base_of}
-use Rattle.tk_free.specs.declared.State.{State}
+use Rattle.tk_cert.specs.declared.State.{State}
 use Rattle.tk_free.specs.Configurations.{IsConfiguration}
 use Rattle.tk_free.specs.Free.{FreeState, Traps, Steps, Path, begun_free}
 

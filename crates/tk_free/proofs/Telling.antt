@@ -5,9 +5,9 @@ use Rattle.mb_pfu.specs.declared.TrapKind.{TrapKind}
 use Rattle.pt_image.specs.declared.Parts.{Parts}
 use Rattle.mb_core.specs.Tick.{base_of}
 use Rattle.mb_pfu.specs.declared.Slot.{Slot}
-use Rattle.tk_free.specs.declared.walk.State.{State}
-use Rattle.tk_free.specs.declared.walk.State.TheVariants.{Free}
-use Rattle.tk_free.specs.declared.walk.Walk.{Walk}
+use Rattle.tk_cert.specs.declared.cert.State.{State}
+use Rattle.tk_cert.specs.declared.cert.State.TheVariants.{Free}
+use Rattle.tk_cert.specs.declared.cert.Walk.{Walk}
 use Rattle.tk_free.specs.Configurations.{StartsWell, IsConfiguration, begun_slots}
 use Rattle.tk_free.specs.Free.{FreeState, FreeStep, Goes, Traps, free_step, IsTurnOf, Rests, Steps, Path, still, begun_free}
 use Rattle.tk_free.specs.Walks.{most_cycles, Tells}

@@ -5,8 +5,8 @@ use Rattle.mb_pfu.specs.declared.Slot.{Slot}
 use Rattle.mb_pfu.specs.declared.Slot.TheVariants as slot
 use Rattle.pt_image.specs.declared.Parts.{Parts}
 use Rattle.mb_core.specs.Words.{is_listed}
-use Rattle.tk_free.specs.declared.walk.State.{State}
-use Rattle.tk_free.specs.declared.walk.State.TheVariants.{Free, Start, Paused, Waiting, Ended}
+use Rattle.tk_cert.specs.declared.cert.State.{State}
+use Rattle.tk_cert.specs.declared.cert.State.TheVariants.{Free, Start, Paused, Waiting, Ended}
 
 -- slot 0 is ready at its start
 abbrev pub IsFirst : State → Type 0

@@ -11,7 +11,7 @@ use Rattle.pt_image.specs.declared.Parts.{Parts}
 use Rattle.mb_core.specs.Words.{immediate, is_good, branch_byte, is_listed}
 use Rattle.mb_core.specs.Step.{is_barred, charge_of}
 use Rattle.mb_core.specs.Tick.{first_ready}
-use Rattle.tk_free.specs.declared.walk.State.{State}
+use Rattle.tk_cert.specs.declared.cert.State.{State}
 use Rattle.tk_free.specs.Configurations.{begun_slots}
 
 -- the upper half that stands for the next word, the slots, and the choices that are left; no plain word takes one

@@ -3,7 +3,7 @@ use Rattle.std.specs.Prelude.{◌≡◌, ◌⊎◌, ℕ, ◌+◌, ◌≤◌, Lis
 use Rattle.mb_pfu.specs.declared.Slot.{Slot}
 use Rattle.pt_image.specs.declared.Parts.{Parts}
 use Rattle.mb_core.specs.Tick.{base_of}
-use Rattle.tk_free.specs.declared.walk.State.{State}
+use Rattle.tk_cert.specs.declared.cert.State.{State}
 use Rattle.tk_free.specs.Configurations.{IsFirst, IsLoose, begun_slot}
 use Rattle.tk_free.specs.Free.{FreeState, FreeStep, Goes, Traps, IsTurnOf, Path, Rests}
 use Rattle.tk_free.specs.Walks.{most_cycles}

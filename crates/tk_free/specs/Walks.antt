@@ -2,7 +2,7 @@
 use Rattle.std.specs.Prelude.{◌≡◌, ℕ, ◌+◌, ◌≤◌, List, [], Option, Some, None}
 use Rattle.pt_image.specs.declared.Parts.{Parts}
 use Rattle.mb_core.specs.Tick.{base_of}
-use Rattle.tk_free.specs.declared.walk.Walk.{Walk}
+use Rattle.tk_cert.specs.declared.cert.Walk.{Walk}
 use Rattle.tk_free.specs.Configurations.{IsConfiguration}
 use Rattle.tk_free.specs.Free.{FreeState, Path, Rests, begun_free}
 

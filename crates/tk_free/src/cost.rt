@@ -6,7 +6,7 @@ ghost use Rattle.tk_free.specs.Walks.{Tells};
 ghost use Rattle.tk_free.specs.Turns.{IsBegunAs, TellsFrom};
 
 use crate::free_core::{FreeCore, is_listed};
-use crate::walk::{State, Walk};
+use tk_cert::{State, Walk};
 use mb_isa::{Class, Costs};
 use mb_pfu::Slot;
 use pt_image::Image;

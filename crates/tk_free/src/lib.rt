@@ -8,7 +8,6 @@ mod cost;
 mod free_core;
 #[cfg(test)]
 mod tests;
-mod walk;
 
 pub use cost::walk_cost;
-pub use walk::{State, Walk};
+pub use tk_cert::{State, Walk};

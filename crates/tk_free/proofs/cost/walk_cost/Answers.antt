@@ -1,7 +1,7 @@
 use Rattle.std.proofs.Common.{rules, ◌≡◌, Some, length, slice_index_or, List, Bool, ap, subst}
 use Rattle.mb_core.proofs.PlainWords.{empty_of}
-use Rattle.tk_free.specs.declared.walk.State.{State}
-use Rattle.tk_free.specs.declared.walk.State.TheVariants.{Free}
+use Rattle.tk_cert.specs.declared.cert.State.{State}
+use Rattle.tk_cert.specs.declared.cert.State.TheVariants.{Free}
 use Rattle.tk_free.specs.Turns.{IsBegunAs}
 use Rattle.tk_free.proofs.Telling.{left_over, tells_begun}
 use Rattle.tk_free.proofs.cost.walk_cost.Goals as goal

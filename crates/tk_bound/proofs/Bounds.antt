@@ -296,7 +296,7 @@ module _ (image : Parts) (cert : CertParts) (costs : List ℕ) (a : Accepts imag
       and-false false = refl
 
   mutual
-    loose-is : (k : ℕ) (t : Tree) → free.IsLoose image k t → machine.IsLoose F k t
+    pub loose-is : (k : ℕ) (t : Tree) → free.IsLoose image k t → machine.IsLoose F k t
     loose-is k (Leaf watches (Running place)) h = absurd h
     loose-is k (Leaf watches (Pausing place)) h = (h.0, of-lines watches h.1)
     loose-is k (Leaf watches Finished) h = absurd h

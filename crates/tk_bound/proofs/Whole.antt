@@ -27,7 +27,7 @@ use Rattle.mb_isa.specs.declared.Class.TheVariants as class
 
 module _ (image : Image) where
   mutual
-    each-tally : (h : List Watch → List Watch) (d : Activity → Activity) (c k : ℕ) (t : Tree) → tally c k (each_slot h d t) ≡ tally c k t
+    pub each-tally : (h : List Watch → List Watch) (d : Activity → Activity) (c k : ℕ) (t : Tree) → tally c k (each_slot h d t) ≡ tally c k t
     each-tally h d c k (Leaf watches activity) = refl
     each-tally h d c k (Waits watches at lo group) = ap (λ n. one (k == c) + n) (each-tally-among h d c lo group)
 

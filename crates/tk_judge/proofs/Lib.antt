@@ -1,0 +1,5 @@
+pub mod Steps
+pub mod Levels
+pub mod Firsts
+pub mod Points
+pub mod Judged

@@ -1,0 +1,12 @@
+pub mod Flags
+pub mod Opens
+pub mod Ways
+pub mod Exacts
+pub mod Moves
+pub mod Walks
+pub mod Extracts
+pub mod TestWalks
+pub mod Resumes
+pub mod Attained
+pub mod Units
+pub mod Crossings

@@ -1,0 +1,4 @@
+pub mod Passages
+pub mod Reached
+pub mod Tight
+pub mod Regions

@@ -1,0 +1,26 @@
+//! The paths behind the numbers of a certificate: where each number is one that acceptance asks of it, exactly, there is a
+//! free tick that costs just the bound.
+//!
+//! Read `Passages`, `Reached`, `Tight` and `Regions` in `specs/` in this order; `docs/bounds.md`, "Tight certificates" and
+//! "Regions", says the same in words. The functions below do nothing: their contracts are the theorems.
+#![tactic(auto)]
+
+ghost use Rattle.tk_paths.specs.Tight.{TightIsWorst};
+ghost use Rattle.tk_paths.specs.Regions.{RegionsAreCrossed, RegionsArePassages};
+
+/// The bound of a certificate that is accepted and tight is the worst of its image: some free tick costs just as much, and
+/// none costs more.
+pub fn a_tight_bound_is_worst()
+    ensures { TightIsWorst }
+{}
+
+/// A region of code in which no slot rests is crossed at the cost of its dearest way, whatever is round it: its loops turn as
+/// often as they say, and its routines return.
+pub fn a_region_is_crossed()
+    ensures { RegionsAreCrossed }
+{}
+
+/// So it is a passage, which tight certificates may be made of.
+pub fn a_region_is_a_passage()
+    ensures { RegionsArePassages }
+{}

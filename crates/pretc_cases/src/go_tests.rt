@@ -196,13 +196,29 @@ fn ends(
     comes_so(alloc, "go p im", outside, wanted)
 }
 
+// Whether `go` on an input ends with status 7 and this report, by three bytes a pull and by one.
+fn is_bad(alloc: Global, input: &str, written: &str) -> Result<bool, Memory> {
+    let by_byte = Outside {
+        step: 1,
+        ..with(FIRST, input)
+    };
+    let first = ends(alloc, with(FIRST, input), 7, written, 0)?;
+    Ok(first && ends(alloc, by_byte, 7, written, 0)?)
+}
+
 #[test]
-fn a_bad_line_is_not_built_and_the_image_stays(rt: HostRuntime) -> Result<(), Fail> {
+fn a_bad_line_ends_the_report_after_the_ticks_before_it(rt: HostRuntime) -> Result<(), Fail> {
     let alloc = rt.alloc();
-    assert!(rt; ends(alloc, with(FIRST, "4\n\n"), 12, "not built\n", 0)?);
-    assert!(rt; ends(alloc, with(FIRST, "x"), 12, "not built\n", 0)?);
-    assert!(rt; ends(alloc, with(FIRST, "4 5\n"), 12, "not built\n", 0)?);
-    assert!(rt; ends(alloc, with(FIRST, "2147483648\n"), 12, "not built\n", 0)?);
+    assert!(rt;
+        is_bad(
+            alloc,
+            "4\n5\n2147483648\n",
+            "tick 0: 5 cycles 8\ntick 1: 5 cycles 4\ntrace T1 line 3\n"
+        )?
+    );
+    assert!(rt; is_bad(alloc, "4\n\n", "tick 0: 5 cycles 8\ntrace T2 line 2\n")?);
+    assert!(rt; is_bad(alloc, "x", "trace T1 line 1\n")?);
+    assert!(rt; is_bad(alloc, "4 5\n", "trace T2 line 1\n")?);
     Ok(())
 }
 
@@ -230,46 +246,63 @@ fn a_failed_load_or_store_has_its_status(rt: HostRuntime) -> Result<(), Fail> {
     Ok(())
 }
 
-// Whether a pull that fails is a read fault, with so many bytes left.
-fn pull_fails(alloc: Global, call: u64, left: usize) -> Result<bool, Memory> {
+// Whether a pull that fails is a read fault behind the lines of these ticks, with so many bytes left.
+fn pull_fails(
+    alloc: Global,
+    step: usize,
+    call: u64,
+    ticks: &str,
+    left: usize,
+) -> Result<bool, Memory> {
     let fails = [call];
     let outside = Outside {
         source_fails: &fails,
+        step,
         ..with(FIRST, "4\n5\n")
     };
-    ends(alloc, outside, 3, "read fault\n", left)
+    let written = format!(in alloc; "{}read fault\n", ticks)?;
+    ends(alloc, outside, 3, &written, left)
 }
 
 #[test]
-fn a_failed_pull_is_a_read_fault_and_the_image_stays(rt: HostRuntime) -> Result<(), Fail> {
-    assert!(rt; pull_fails(rt.alloc(), 0, 4)?);
-    assert!(rt; pull_fails(rt.alloc(), 1, 1)?);
-    assert!(rt; pull_fails(rt.alloc(), 2, 0)?);
+fn a_failed_pull_is_a_read_fault_after_the_ticks_before_it(rt: HostRuntime) -> Result<(), Fail> {
+    let alloc = rt.alloc();
+    let first = "tick 0: 5 cycles 8\n";
+    let both = "tick 0: 5 cycles 8\ntick 1: 5 cycles 4\n";
+    assert!(rt; pull_fails(alloc, 3, 0, "", 4)?);
+    assert!(rt; pull_fails(alloc, 3, 1, first, 1)?);
+    assert!(rt; pull_fails(alloc, 3, 2, both, 0)?);
+    assert!(rt; pull_fails(alloc, 1, 0, "", 4)?);
+    assert!(rt; pull_fails(alloc, 1, 1, "", 3)?);
+    assert!(rt; pull_fails(alloc, 1, 2, first, 2)?);
+    assert!(rt; pull_fails(alloc, 1, 3, first, 1)?);
+    assert!(rt; pull_fails(alloc, 1, 4, both, 0)?);
     Ok(())
 }
 
 // Whether a push or a flush that fails is a write fault behind this front of the report.
-fn push_fails(alloc: Global, call: u64, written: &str) -> Result<bool, Memory> {
+fn push_fails(alloc: Global, call: u64, written: &str, left: usize) -> Result<bool, Memory> {
     let fails = [call];
     let outside = Outside {
         sink_fails: &fails,
         room: 99,
         ..with(FIRST, "4\n5\n")
     };
-    ends(alloc, outside, 4, written, 0)
+    ends(alloc, outside, 4, written, left)
 }
 
 #[test]
 fn a_failed_push_or_flush_leaves_a_front_of_the_report(rt: HostRuntime) -> Result<(), Fail> {
     let alloc = rt.alloc();
-    assert!(rt; push_fails(alloc, 0, "")?);
-    assert!(rt; push_fails(alloc, 1, "tick 0: 5 cycles 8\n")?);
-    assert!(rt; push_fails(alloc, 2, "tick 0: 5 cycles 8\ntick 1: 5 cycles 4\n")?);
+    assert!(rt; push_fails(alloc, 0, "", 1)?);
+    assert!(rt; push_fails(alloc, 1, "tick 0: 5 cycles 8\n", 0)?);
+    assert!(rt; push_fails(alloc, 2, "tick 0: 5 cycles 8\ntick 1: 5 cycles 4\n", 0)?);
     assert!(rt;
         push_fails(
             alloc,
             3,
-            "tick 0: 5 cycles 8\ntick 1: 5 cycles 4\nticks 2 worst 8\n"
+            "tick 0: 5 cycles 8\ntick 1: 5 cycles 4\nticks 2 worst 8\n",
+            0
         )?
     );
     let narrow = Outside {

@@ -1,4 +1,5 @@
 pub mod Fronts
 mod MeanStepping
+mod Reports
 mod Stepping
 pub mod Written

@@ -158,19 +158,20 @@ mean_is_bad start rows s r q rule number src now k l result u bad few stays h =
     (mean_bad rule number (reads_same start rows s r q src now k u bad.unread few) (refuses_the_first _ _ r q src.left now.left rows rule number u.given bad) (stays ∙ u.faults)) h
 
 mean_is_cut : (start : MeanStart) (rows : List (List ℤ)) (s : State) (r q : Reader) (src now : SourceTold) (k l : SinkTold) (result : Result (Option Ending) Failed) →
-    IsMeaning start rows s r src k → r.ended ≡ false → MetFault r q (unread r src.left) now.left (Rose src.faults now.faults) → length q.kept ≤ 2048 →
+    IsMeaning start rows s r src k → r.ended ≡ false → MetFault r q (unread r src.left) now.left (Rose src.faults now.faults) → src.faults ≤ now.faults → length q.kept ≤ 2048 →
     SaysLast end.ReadFault (line_of end.ReadFault) k l result → MeanStepComes start rows s q now l result
-mean_is_cut start rows s r q src now k l result u opened fault few h =
+mean_is_cut start rows s r q src now k l result u opened fault later few h =
     let R : ℕ → Type 0 = λ n. Rose n now.faults in
+    let L : ℕ → Type 0 = λ n. n ≤ now.faults in
     says_end start rows s s r q src now k l end.ReadFault _ result u
     (mean_fault (reads_same start rows s r q src now k u fault.unread few) (fails_after_whole _ _ r q src.left now.left rows src.faults now.faults opened u.given fault)
-    (subst R u.faults fault.counted)) h
+    (record { later = subst L u.faults later; rose = subst R u.faults fault.counted })) h
 
 pub mean_is_faulty : (start : MeanStart) (rows : List (List ℤ)) (s : State) (r q : Reader) (fault : TraceFault) (row : List ℤ) (src now : SourceTold) (k l : SinkTold) (result : Result (Option Ending) Failed) →
-    IsMeaning start rows s r src k → r.ended ≡ false → Next r q src now row (Err fault) → Stays src.faults now.faults (Err fault) → length q.kept ≤ 2048 →
+    IsMeaning start rows s r src k → r.ended ≡ false → Next r q src now row (Err fault) → Stays src.faults now.faults (Err fault) → src.faults ≤ now.faults → length q.kept ≤ 2048 →
     SaysLast (ending_of fault) (line_of (ending_of fault)) k l result → MeanStepComes start rows s q now l result
-mean_is_faulty start rows s r q (Refused rule number) row src now k l result u opened answer stays few h = mean_is_bad start rows s r q rule number src now k l result u answer few stays h
-mean_is_faulty start rows s r q ReadFault row src now k l result u opened answer stays few h = mean_is_cut start rows s r q src now k l result u opened answer few h
+mean_is_faulty start rows s r q (Refused rule number) row src now k l result u opened answer stays later few h = mean_is_bad start rows s r q rule number src now k l result u answer few stays h
+mean_is_faulty start rows s r q ReadFault row src now k l result u opened answer stays later few h = mean_is_cut start rows s r q src now k l result u opened answer later few h
 
 -- ---- a meaning that begins
 

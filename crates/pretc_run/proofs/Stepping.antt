@@ -262,13 +262,14 @@ says_bad start rows m r s w rule number src now k l result u bad few stays h =
     (run_bad rule number (has_ticked start rows m r s w src now k u bad.unread few) (refuses_the_first _ _ r s src.left now.left rows rule number u.given bad) (stays ∙ u.faults)) h
 
 pub says_fault : (start : Start) (rows : List (List ℤ)) (m : Whole) (r s : Reader) (w : ℕ) (src now : SourceTold) (k l : SinkTold) (result : Result (Option Ending) Failed) →
-    IsUnderWay start rows m r w src k → r.ended ≡ false → MetFault r s (unread r src.left) now.left (Rose src.faults now.faults) → length s.kept ≤ 2048 →
+    IsUnderWay start rows m r w src k → r.ended ≡ false → MetFault r s (unread r src.left) now.left (Rose src.faults now.faults) → src.faults ≤ now.faults → length s.kept ≤ 2048 →
     SaysLast end.ReadFault (line_of end.ReadFault) k l result → StepComes start rows m s w now l result
-says_fault start rows m r s w src now k l result u opened fault few h =
+says_fault start rows m r s w src now k l result u opened fault later few h =
     let R : ℕ → Type 0 = λ n. Rose n now.faults in
+    let L : ℕ → Type 0 = λ n. n ≤ now.faults in
     says_last start rows m m r s w w src now k l end.ReadFault _ result u
     (run_fault (has_ticked start rows m r s w src now k u fault.unread few) (fails_after_whole _ _ r s src.left now.left rows src.faults now.faults opened u.given fault)
-    (subst R u.faults fault.counted)) h
+    (record { later = subst L u.faults later; rose = subst R u.faults fault.counted })) h
 
 -- ---- whether the reader had met the end
 

@@ -1,10 +1,11 @@
 -- Lines that were written one after another.
-use Rattle.std.proofs.Common.{◌≡◌, ◌≤◌, ℕ, List, [], ◌∷◌, ◌++◌, Option, Some, None, take, refl, sym, ap, subst, ◌∙◌, append_assoc, append-nil, arith}
+use Rattle.std.proofs.Common.{◌≡◌, ◌≤◌, ℕ, List, [], ◌∷◌, ◌++◌, Option, Some, None, take, length, refl, sym, ap, subst, ◌∙◌, append_assoc, append-nil, arith}
+use Rattle.std.proofs.Math.Seq.{take-length}
 use Rattle.std.specs.Io.KnownBytes.{Appends, Keeps}
 use Rattle.pt_outside.specs.Counts.{Rose, next}
 use Rattle.pt_outside.specs.Told.{SinkTold}
-use Rattle.pretc_run.specs.Writing.{text_of, pushed, Wrote, BrokeOff, Answers, answered, broke_off}
-use Rattle.pretc_run.proofs.Fronts.{appends_none, appends_both}
+use Rattle.pretc_run.specs.Writing.{text_of, pushed, Wrote, BrokeOff, IsAnswered, IsUnsent, Closes, closed, unsent, Answers, answered, broke_off}
+use Rattle.pretc_run.proofs.Fronts.{appends_none, appends_keeps, appends_both}
 
 pub text_append : (xs ys : List (List ℕ)) → text_of (xs ++ ys) ≡ text_of xs ++ text_of ys
 text_append [] ys = refl
@@ -41,7 +42,7 @@ wrote_broke a b c xs ys line v w =
     }
 
 pub answers_after : (a b c : SinkTold) (xs ys : List (List ℕ)) (status answer : ℕ) → Wrote a b xs → Answers ys status b c answer → Answers (xs ++ ys) status a c answer
-answers_after a b c xs ys status answer v (answered e w s) = answered e (wrote_both a b c xs ys v w) s
+answers_after a b c xs ys status answer v (answered h) = answered (record { answer_is = h.answer_is; wrote = wrote_both a b c xs ys v h.wrote; sent = h.sent })
 answers_after a b c xs ys status answer v (broke_off whole rest e d w) =
     broke_off (xs ++ whole) rest e (ap (λ t. xs ++ t) d ∙ sym (append_assoc xs whole rest)) (wrote_broke a b c xs whole _ v w)
 
@@ -50,11 +51,38 @@ keeps_none None new k = tt
 keeps_none (Some xs) None k = absurd k
 keeps_none (Some xs) (Some ys) k = k ∙ sym (append-nil xs)
 
--- the flush failed, with nothing due before it
-pub not_sent : (a b : SinkTold) (status answer : ℕ) → answer ≡ 4 → Keeps a.written b.written → a.faults ≤ b.faults → Rose a.faults b.faults → Answers [] status a b answer
-not_sent a b status answer e k later rose = broke_off [] [] e refl (record { front = 0; written = keeps_none a.written b.written k; later = later; rose = rose })
+-- a flush that failed, with nothing due before it
+unsent_breaks : (a b : SinkTold) → IsUnsent a b → BrokeOff a b [] []
+unsent_breaks a b h = record { front = 0; written = keeps_none a.written b.written h.written; later = h.later; rose = h.rose }
 
-pub answers_closed : (a b c : SinkTold) (xs : List (List ℕ)) (status answer : ℕ) → Wrote a b xs → Answers [] status b c answer → Answers xs status a c answer
+answers_closing : (a b : SinkTold) (status answer : ℕ) → Closes status a b answer → Answers [] status a b answer
+answers_closing a b status answer (closed h) = answered h
+answers_closing a b status answer (unsent e h) = broke_off [] [] e refl (unsent_breaks a b h)
+
+-- lines that were written before the end of a call
+pub answers_closed : (a b c : SinkTold) (xs : List (List ℕ)) (status answer : ℕ) → Wrote a b xs → Closes status b c answer → Answers xs status a c answer
 answers_closed a b c xs status answer v h =
     let P : List (List ℕ) → Type 0 = λ ys. Answers ys status a c answer in
-    subst P (append-nil xs) (answers_after a b c xs [] status answer v h)
+    subst P (append-nil xs) (answers_after a b c xs [] status answer v (answers_closing b c status answer h))
+
+-- the same where the end is in order
+pub answered_closed : (a b c : SinkTold) (xs : List (List ℕ)) (status answer : ℕ) → Wrote a b xs → IsAnswered [] status b c answer → IsAnswered xs status a c answer
+answered_closed a b c xs status answer v h =
+    let P : List (List ℕ) → Type 0 = λ ys. Wrote a c ys in
+    record { answer_is = h.answer_is; wrote = subst P (append-nil xs) (wrote_both a b c xs [] v h.wrote); sent = h.sent }
+
+text_push : (xs : List (List ℕ)) (line : List ℕ) → text_of (xs ++ line ∷ []) ≡ text_of xs ++ take (length line) line
+text_push xs line = text_append xs (line ∷ []) ∙ ap (λ t. text_of xs ++ t) (append-nil line ∙ sym (take-length line))
+
+-- a flush that failed behind lines and a last one: the last one is the front of itself
+pub unsent_last : (a b c : SinkTold) (xs : List (List ℕ)) (line : List ℕ) → Wrote a b (xs ++ line ∷ []) → IsUnsent b c → BrokeOff a c xs line
+unsent_last a b c xs line v h =
+    let P : List ℕ → Type 0 = λ t. Appends a.written c.written t in
+    let Q : ℕ → Type 0 = λ n. n ≤ c.faults in
+    let R : ℕ → Type 0 = λ n. Rose n c.faults in
+    record {
+      front = length line;
+      written = subst P (text_push xs line) (appends_keeps a.written b.written c.written (text_of (xs ++ line ∷ [])) v.written h.written);
+      later = subst Q v.faults h.later;
+      rose = subst R v.faults h.rose;
+    }

@@ -1,6 +1,5 @@
 -- How the meaning of a program runs on a trace: docs/commands.md, "The report".
 use Rattle.std.specs.Prelude.{◌≡◌, ℕ, ◌+◌, ℤ, List, [], ◌∷◌, ◌++◌, length, None}
-use Rattle.pt_outside.specs.Counts.{Rose}
 use Rattle.pt_outside.specs.Told.{SourceTold, SinkTold}
 use Rattle.pt_trace.specs.Given.{HasRead, IsWhole, IsBad, IsCut}
 use Rattle.pt_trace.specs.Report.{tick_line, ticks_line}
@@ -9,7 +8,8 @@ use Rattle.pc_meaning.specs.Runs.{meaning_of}
 use Rattle.pretc_run.specs.declared.endings.Ending.{Ending}
 use Rattle.pretc_run.specs.declared.endings.Ending.TheVariants as end
 use Rattle.pretc_run.specs.Endings.{number_of, line_of, write_fault}
-use Rattle.pretc_run.specs.Writing.{Wrote, BrokeOff, Answers}
+use Rattle.pretc_run.specs.Writing.{Wrote, BrokeOff, IsAnswered}
+use Rattle.pretc_run.specs.Running.{HasFailed}
 
 -- the lines of ticks from number k on, with their outputs alone
 abbrev pub plain_lines : ℕ → List (List ℤ) → List (List ℕ)
@@ -35,7 +35,7 @@ pub data MeanEnds (program : Program) (rows : List (List ℤ)) (before after : S
   mean_bad : (rule line : ℕ) → HasReadRows program rows before after → IsBad (width_of program) before.left rows rule line →
       after.faults ≡ before.faults → MeanEnds program rows before after (line_of (end.BadTrace rule line)) (end.BadTrace rule line)
   mean_fault : HasReadRows program rows before after → IsCut (width_of program) before.left after.left rows →
-      Rose before.faults after.faults → MeanEnds program rows before after (line_of end.ReadFault) end.ReadFault
+      HasFailed before after → MeanEnds program rows before after (line_of end.ReadFault) end.ReadFault
   mean_lacks : (row : List ℤ) → HasReadRows program (rows ++ row ∷ []) before after →
       after.faults ≡ before.faults → MeanEnds program rows before after (line_of end.WantOfMemory) end.WantOfMemory
 
@@ -63,9 +63,9 @@ pub record MeanWrote (program : Program) (before after : SourceTold) (sink now :
   pub ends : MeanEnds program rows before after last e
   pub wrote : Wrote sink now (meant_lines program rows ++ last ∷ [])
 
--- what the report of a meaning comes to, the flush after it included: the meaning ended and all its lines are due, or the report
--- broke off before its last line was written
+-- what the report of a meaning comes to, the flush after it included: the meaning ended, and all its lines are written and sent; or
+-- the report broke off, at the latest in the flush after its last line
 pub data MeanComes (program : Program) (before after : SourceTold) (sink now : SinkTold) (answer : ℕ) : Type 0 where
   mean_ends : (rows : List (List ℤ)) (last : List ℕ) (e : Ending) → MeanEnds program rows before after last e →
-      Answers (meant_lines program rows ++ last ∷ []) (number_of e) sink now answer → MeanComes program before after sink now answer
+      IsAnswered (meant_lines program rows ++ last ∷ []) (number_of e) sink now answer → MeanComes program before after sink now answer
   mean_breaks : answer ≡ write_fault → MeanBreaks program before after sink now → MeanComes program before after sink now answer

@@ -1,5 +1,5 @@
 -- How an image runs on a trace: docs/commands.md, "The report".
-use Rattle.std.specs.Prelude.{◌≡◌, ℕ, ℤ, List, [], ◌∷◌, ◌++◌, length, Some}
+use Rattle.std.specs.Prelude.{◌≡◌, ◌≤◌, ℕ, ℤ, List, [], ◌∷◌, ◌++◌, length, Some}
 use Rattle.pt_outside.specs.Counts.{Rose}
 use Rattle.pt_outside.specs.Told.{SourceTold, SinkTold}
 use Rattle.pt_image.specs.declared.image.Parts.{Parts}
@@ -29,6 +29,11 @@ pub record IsTrapped (image : Parts) (costs : List ℕ) (most : ℕ) (rows : Lis
   pub charged : ℕ
   pub traps : run_of image costs most (rows ++ row ∷ []) ≡ run_of image costs most rows ++ Trapped kind at charged ∷ []
 
+-- a pull failed: the count of faults rose, and it didn't fall
+pub record HasFailed (before after : SourceTold) : Type 0 where
+  pub later : before.faults ≤ after.faults
+  pub rose : Rose before.faults after.faults
+
 -- how a run ends after the ticks on these rows, and the line that is due then: the trace was read to its end, has a bad line, or
 -- its source failed, or a tick trapped
 pub data RunEnds (image : Parts) (costs : List ℕ) (most : ℕ) (rows : List (List ℤ)) (before after : SourceTold) : List ℕ → Ending → Type 0 where
@@ -36,7 +41,7 @@ pub data RunEnds (image : Parts) (costs : List ℕ) (most : ℕ) (rows : List (L
       RunEnds image costs most rows before after (last_line (told (run_of image costs most rows))) end.Done
   run_bad : (rule line : ℕ) → HasTicked image costs most rows before after → IsBad (length image.inputs) before.left rows rule line → after.faults ≡ before.faults →
       RunEnds image costs most rows before after (line_of (end.BadTrace rule line)) (end.BadTrace rule line)
-  run_fault : HasTicked image costs most rows before after → IsCut (length image.inputs) before.left after.left rows → Rose before.faults after.faults →
+  run_fault : HasTicked image costs most rows before after → IsCut (length image.inputs) before.left after.left rows → HasFailed before after →
       RunEnds image costs most rows before after (line_of end.ReadFault) end.ReadFault
   run_trapped : (row : List ℤ) (kind : TrapKind) (at : ℕ) → HasRead (length image.inputs) before.left after.left (rows ++ row ∷ []) →
       AllEnded (run_of image costs most rows) → IsTrapped image costs most rows row kind at → after.faults ≡ before.faults →

@@ -1,6 +1,6 @@
 -- What a call writes: docs/commands.md, "Output".
 use Rattle.std.specs.Prelude.{◌≡◌, ◌≤◌, ℕ, true, List, [], ◌∷◌, ◌++◌, take}
-use Rattle.std.specs.Io.KnownBytes.{Appends}
+use Rattle.std.specs.Io.KnownBytes.{Appends, Keeps}
 use Rattle.pt_outside.specs.Counts.{Rose, next}
 use Rattle.pt_outside.specs.Told.{SinkTold}
 use Rattle.pretc_run.specs.Endings.{write_fault}
@@ -32,8 +32,25 @@ abbrev pub first_of : List (List ℕ) → List ℕ
 first_of [] = []
 first_of (l ∷ ls) = l
 
+-- these lines are written and sent, and this status is answered
+pub record IsAnswered (due : List (List ℕ)) (status : ℕ) (before after : SinkTold) (answer : ℕ) : Type 0 where
+  pub answer_is : answer ≡ status
+  pub wrote : Wrote before after due
+  pub sent : after.sent ≡ true
+
+-- the flush failed, and nothing was written
+pub record IsUnsent (before after : SinkTold) : Type 0 where
+  pub written : Keeps before.written after.written
+  pub later : before.faults ≤ after.faults
+  pub rose : Rose before.faults after.faults
+
+-- the flush at the end of a call: what was written is sent, and this status is answered; or the flush failed
+pub data Closes (status : ℕ) (before after : SinkTold) (answer : ℕ) : Type 0 where
+  closed : IsAnswered [] status before after answer → Closes status before after answer
+  unsent : answer ≡ write_fault → IsUnsent before after → Closes status before after answer
+
 -- the lines that are due are written and sent, and this status is answered; or a push or the flush failed
 pub data Answers (due : List (List ℕ)) (status : ℕ) (before after : SinkTold) (answer : ℕ) : Type 0 where
-  answered : answer ≡ status → Wrote before after due → after.sent ≡ true → Answers due status before after answer
+  answered : IsAnswered due status before after answer → Answers due status before after answer
   broke_off : (whole rest : List (List ℕ)) → answer ≡ write_fault → due ≡ whole ++ rest → BrokeOff before after whole (first_of rest) →
       Answers due status before after answer

@@ -1,6 +1,6 @@
 ghost use Rattle.std.specs.Prelude.{◌≡◌, ◌≤◌, ◌∷◌, [], OnOk, OnErr};
 ghost use Rattle.pretc_run.specs.Endings.{number_of, line_of};
-ghost use Rattle.pretc_run.specs.Writing.{Wrote, BrokeOff, Answers};
+ghost use Rattle.pretc_run.specs.Writing.{Wrote, BrokeOff, Closes, Answers};
 
 use crate::endings::{Ending, WRITE_FAULT};
 use pt_outside::{Failed, Sink};
@@ -15,7 +15,7 @@ pub fn push_line<O: Sink>(line: &[u8], out: &mut O) -> Result<(), Failed>
 
 /// The end of a call, once its lines are written.
 pub fn close<O: Sink>(ending: Ending, out: &mut O) -> u8
-    ensures answers { Answers [] (number_of ending) (O.told out.old) (O.told out.new) result }
+    ensures closes { Closes (number_of ending) (O.told out.old) (O.told out.new) result }
 {
     match out.flush() {
         Ok(()) => ending.number(),

@@ -1,185 +1,134 @@
--- What a status tells of its cause.
-use Rattle.std.proofs.Common.{◌≡◌, ◌⊎◌, inl, inr, ℕ, List, Option, Some, None, refl, sym, subst, ◌∙◌, ⊎_elim, arith}
-use Rattle.pt_outside.specs.Counts.{Rose}
-use Rattle.pretc_top.specs.declared.statuses.Status.{Status}
-use Rattle.pretc_top.specs.declared.statuses.Status.TheVariants.{Done, Refused, Usage, ReadFault, WriteFault, WantOfMemory, BadForm, NotAccepted, StoreFault, NotBuilt, NoFile}
-use Rattle.pretc_top.specs.Commands.{Command, Go, Check, Print, Rules, command_of, number_of}
-use Rattle.pretc_top.specs.Go.{Outside, Written, UsageEnds, Answers, whole, failed}
-use Rattle.pretc_top.specs.Comes.{CommandEnds, Comes}
-use Rattle.pretc_top.specs.Causes.{LacksFile, BoundHolds, IsRefusedBy}
-use Rattle.pretc_top.proofs.SaysCausing.{says_read, says_lacks, says_refused, says_number, breaks_of}
-use Rattle.pretc_top.proofs.CheckCausing.{check_read, check_lacks, check_number, check_bound}
+-- What an ending without a run tells of its cause, whatever the command.
+use Rattle.std.proofs.Common.{◌≡◌, ◌≢◌, ◌≤◌, ◌⊎◌, inl, inr, ℕ, ℤ, List, [], ◌∷◌, ◌++◌, Option, Some, None, refl, sym, ap, subst, ◌∙◌, arith}
+use Rattle.pt_base.specs.declared.Rule.{Rule}
+use Rattle.pt_base.specs.declared.Span.{Span}
+use Rattle.pt_image.specs.declared.image.Parts.{Parts}
+use Rattle.pt_image.specs.Text.{text_of}
+use Rattle.pt_outside.specs.Files.{Holds, Lacks}
+use Rattle.pt_outside.specs.Told.{ShelfTold}
+use Rattle.pc_source.specs.Sources as source
+use Rattle.pc_verdict.specs.Verdicts.{BreaksFirst}
+use Rattle.pretc_run.specs.declared.endings.Ending.{Ending}
+use Rattle.pretc_run.specs.declared.endings.Ending.TheVariants.{Done, Refused, Usage, ReadFault, WantOfMemory, BadImage, BadCert, NotAccepted, StoreFault, NotBuilt, NoFile}
+use Rattle.pretc_run.specs.Endings.{number_of, line_of}
+use Rattle.pretc_top.specs.declared.commands.Command.{Command}
+use Rattle.pretc_top.specs.declared.commands.Command.TheVariants.{Go, Check, Print, Rules}
+use Rattle.mb_isa.specs.Costs.{unit}
+use Rattle.tk_cert.specs.declared.CertParts.{CertParts}
+use Rattle.tk_cert.specs.Demands.{Demand}
+use Rattle.pretc_top.specs.Outside.{Outside}
+use Rattle.pretc_top.specs.Loading.{IsAsBefore, IsFailedLoad, LoadFails, load_fault, no_file, load_memory, ProgramFails, program_missing, program_refused, program_memory}
+use Rattle.pretc_top.specs.Says.{SaysEnds, said, unsaid, IsPrinted, IsRuled}
+use Rattle.pretc_top.specs.Check.{CheckEnds, other_costs, not_loaded, judged, LoadsFail, no_image, no_cert, Judged, image_fails, cert_fails, not_plain, decided, ImageFails, bad_image, image_memory, CertFails, bad_cert, cert_memory, Decided, accepted, not_accepted, AreLoaded, AreRead, refusal_of, unit_word}
+use Rattle.pretc_top.specs.Go.{IsBuilt, IsMade, IsFailedStore, BuildFails, unread, not_small, StoreFails, store_fault, store_memory, IsUnready, unbuilt, unstored, unloaded}
+use Rattle.pretc_top.specs.Comes.{Ends, no_command, go_ends, check_ends, print_ends, rules_ends}
+use Rattle.pretc_top.specs.Causes.{BreaksRule, IsRefusedBy, go_refused, print_refused, rules_refused, LacksFile, go_lacks, check_lacks, check_lacks_cert, print_lacks, rules_lacks, BoundHolds}
 
-read_ends : (command : Option Command) (status : Status) (old new : Outside) (due : List ℕ) → number_of status ≡ 3 → CommandEnds command status old new due
-    → Rose old.load_faults new.load_faults ⊎ Rose old.source_faults new.source_faults
-read_ends (Some (Print program)) status old new due e h = inl (says_read status program old.files old.load_faults new.load_faults due e h.case)
-read_ends (Some (Rules program)) status old new due e h = inl (says_read status program old.files old.load_faults new.load_faults due e h.case)
-read_ends (Some (Check image cert costs)) status old new due e h = inl (check_read status image cert costs old.files old.load_faults new.load_faults due e h.case)
-read_ends command Done old new due e h = absurd (omega arith)
-read_ends command Refused old new due e h = absurd (omega arith)
-read_ends command Usage old new due e h = absurd (omega arith)
-read_ends None ReadFault old new due e h = absurd h
-read_ends (Some (Go program name)) ReadFault old new due e h = ⊎_elim (λ l. inl l.cause) (λ p. inr p.cause) h.1
-read_ends command WriteFault old new due e h = absurd (omega arith)
-read_ends command WantOfMemory old new due e h = absurd (omega arith)
-read_ends command BadForm old new due e h = absurd (omega arith)
-read_ends command NotAccepted old new due e h = absurd (omega arith)
-read_ends command StoreFault old new due e h = absurd (omega arith)
-read_ends command NotBuilt old new due e h = absurd (omega arith)
-read_ends command NoFile old new due e h = absurd (omega arith)
+-- by the command, the lines that are due and the ending
+pub data Cause (old new : Outside) : Option (Command (List ℕ)) → List (List ℕ) → Ending → Type 0 where
+  by_done : (command : Option (Command (List ℕ))) (due : List (List ℕ)) → BoundHolds old.shelf.files command → IsAsBefore old.shelf new.shelf →
+      Cause old new command due Done
+  by_refusal : (command : Option (Command (List ℕ))) (rule : Rule) (span : Span) → IsRefusedBy old.shelf.files command → IsAsBefore old.shelf new.shelf →
+      Cause old new command (line_of (Refused rule span) ∷ []) (Refused rule span)
+  by_usage : new.shelf ≡ old.shelf → Cause old new None (line_of Usage ∷ []) Usage
+  by_load : (command : Option (Command (List ℕ))) → IsFailedLoad old.shelf new.shelf → Cause old new command (line_of ReadFault ∷ []) ReadFault
+  by_memory : (command : Option (Command (List ℕ))) → IsAsBefore old.shelf new.shelf → Cause old new command (line_of WantOfMemory ∷ []) WantOfMemory
+  by_stored : (program name : List ℕ) (image : Parts) → IsMade program name image old.shelf new.shelf →
+      Cause old new (Some (Go program name)) (line_of WantOfMemory ∷ []) WantOfMemory
+  by_image : (command : Option (Command (List ℕ))) (due : List (List ℕ)) (number : ℕ) → IsAsBefore old.shelf new.shelf → Cause old new command due (BadImage number)
+  by_cert : (command : Option (Command (List ℕ))) (due : List (List ℕ)) (number : ℕ) → IsAsBefore old.shelf new.shelf → Cause old new command due (BadCert number)
+  by_demand : (command : Option (Command (List ℕ))) (due : List (List ℕ)) (d : Demand) → IsAsBefore old.shelf new.shelf → Cause old new command due (refusal_of d)
+  by_store : (program name : List ℕ) (image : Parts) → IsBuilt program image old.shelf.files → IsFailedStore name (text_of image) old.shelf new.shelf →
+      Cause old new (Some (Go program name)) (line_of StoreFault ∷ []) StoreFault
+  by_form : (command : Option (Command (List ℕ))) → IsAsBefore old.shelf new.shelf → Cause old new command (line_of NotBuilt ∷ []) NotBuilt
+  by_absence : (command : Option (Command (List ℕ))) → LacksFile old.shelf.files command → IsAsBefore old.shelf new.shelf →
+      Cause old new command (line_of NoFile ∷ []) NoFile
 
-store_ends : (command : Option Command) (status : Status) (old new : Outside) (due : List ℕ) → number_of status ≡ 11 → CommandEnds command status old new due
-    → Rose old.store_faults new.store_faults
-store_ends (Some (Print program)) status old new due e h = absurd (says_number status program old.files old.load_faults new.load_faults due 11 e h.case (λ h. omega (arith, h)) (λ h. omega (arith, h)) (λ h. omega (arith, h)) (λ h. omega (arith, h)) (λ h. omega (arith, h)))
-store_ends (Some (Rules program)) status old new due e h = absurd (says_number status program old.files old.load_faults new.load_faults due 11 e h.case (λ h. omega (arith, h)) (λ h. omega (arith, h)) (λ h. omega (arith, h)) (λ h. omega (arith, h)) (λ h. omega (arith, h)))
-store_ends (Some (Check image cert costs)) status old new due e h = absurd (check_number status image cert costs old.files old.load_faults new.load_faults due 11 e h.case (λ h. omega (arith, h)) (λ h. omega (arith, h)) (λ h. omega (arith, h)) (λ h. omega (arith, h)) (λ h. omega (arith, h)) (λ h. omega (arith, h)) (λ h. omega (arith, h)))
-store_ends command Done old new due e h = absurd (omega arith)
-store_ends command Refused old new due e h = absurd (omega arith)
-store_ends command Usage old new due e h = absurd (omega arith)
-store_ends command ReadFault old new due e h = absurd (omega arith)
-store_ends command WriteFault old new due e h = absurd (omega arith)
-store_ends command WantOfMemory old new due e h = absurd (omega arith)
-store_ends command BadForm old new due e h = absurd (omega arith)
-store_ends command NotAccepted old new due e h = absurd (omega arith)
-store_ends None StoreFault old new due e h = absurd h
-store_ends (Some (Go program name)) StoreFault old new due e h = h.1.cause
-store_ends command NotBuilt old new due e h = absurd (omega arith)
-store_ends command NoFile old new due e h = absurd (omega arith)
+module _ (old new : Outside) (command : Option (Command (List ℕ))) where
+  -- a file wasn't loaded
+  of_load : (name : List ℕ) (e : Ending) → (Lacks old.shelf.files name → LacksFile old.shelf.files command) → LoadFails name old.shelf new.shelf e →
+      Cause old new command (line_of e ∷ []) e
+  of_load name _ lacks (load_fault f) = by_load command f
+  of_load name _ lacks (no_file l k) = by_absence command (lacks l) k
+  of_load name _ lacks (load_memory k) = by_memory command k
 
-write_ends : (command : Option Command) (status : Status) (old new : Outside) (due : List ℕ) → number_of status ≡ 4 → CommandEnds command status old new due → ⊥
-write_ends (Some (Print program)) status old new due e h = absurd (says_number status program old.files old.load_faults new.load_faults due 4 e h.case (λ h. omega (arith, h)) (λ h. omega (arith, h)) (λ h. omega (arith, h)) (λ h. omega (arith, h)) (λ h. omega (arith, h)))
-write_ends (Some (Rules program)) status old new due e h = absurd (says_number status program old.files old.load_faults new.load_faults due 4 e h.case (λ h. omega (arith, h)) (λ h. omega (arith, h)) (λ h. omega (arith, h)) (λ h. omega (arith, h)) (λ h. omega (arith, h)))
-write_ends (Some (Check image cert costs)) status old new due e h = absurd (check_number status image cert costs old.files old.load_faults new.load_faults due 4 e h.case (λ h. omega (arith, h)) (λ h. omega (arith, h)) (λ h. omega (arith, h)) (λ h. omega (arith, h)) (λ h. omega (arith, h)) (λ h. omega (arith, h)) (λ h. omega (arith, h)))
-write_ends command Done old new due e h = absurd (omega arith)
-write_ends command Refused old new due e h = absurd (omega arith)
-write_ends command Usage old new due e h = absurd (omega arith)
-write_ends command ReadFault old new due e h = absurd (omega arith)
-write_ends None WriteFault old new due e h = h
-write_ends (Some (Go program name)) WriteFault old new due e h = h
-write_ends command WantOfMemory old new due e h = absurd (omega arith)
-write_ends command BadForm old new due e h = absurd (omega arith)
-write_ends command NotAccepted old new due e h = absurd (omega arith)
-write_ends command StoreFault old new due e h = absurd (omega arith)
-write_ends command NotBuilt old new due e h = absurd (omega arith)
-write_ends command NoFile old new due e h = absurd (omega arith)
+  -- no program was taken
+  of_program : (B : List ℕ → Rule → Span → Type 0) (program : List ℕ) (e : Ending) → (Lacks old.shelf.files program → LacksFile old.shelf.files command) →
+      (BreaksRule B program old.shelf.files → IsRefusedBy old.shelf.files command) → ProgramFails B program old.shelf new.shelf e → Cause old new command (line_of e ∷ []) e
+  of_program B program _ lacks breaks (program_missing e f) = of_load program e lacks f
+  of_program B program _ lacks breaks (program_refused text rule span h b k) =
+      by_refusal command rule span (breaks (record { text = text; held = h; rule = rule; span = span; breaks = b })) k
+  of_program B program _ lacks breaks (program_memory k) = by_memory command k
 
-no_file_ends : (command : Option Command) (status : Status) (old new : Outside) (due : List ℕ) → number_of status ≡ 17 → CommandEnds command status old new due → LacksFile command old.files
-no_file_ends (Some (Print program)) status old new due e h = says_lacks status program old.files old.load_faults new.load_faults due e h.case
-no_file_ends (Some (Rules program)) status old new due e h = says_lacks status program old.files old.load_faults new.load_faults due e h.case
-no_file_ends (Some (Check image cert costs)) status old new due e h = check_lacks status image cert costs old.files old.load_faults new.load_faults due e h.case
-no_file_ends command Done old new due e h = absurd (omega arith)
-no_file_ends command Refused old new due e h = absurd (omega arith)
-no_file_ends command Usage old new due e h = absurd (omega arith)
-no_file_ends command ReadFault old new due e h = absurd (omega arith)
-no_file_ends command WriteFault old new due e h = absurd (omega arith)
-no_file_ends command WantOfMemory old new due e h = absurd (omega arith)
-no_file_ends command BadForm old new due e h = absurd (omega arith)
-no_file_ends command NotAccepted old new due e h = absurd (omega arith)
-no_file_ends command StoreFault old new due e h = absurd (omega arith)
-no_file_ends command NotBuilt old new due e h = absurd (omega arith)
-no_file_ends None NoFile old new due e h = absurd h
-no_file_ends (Some (Go program name)) NoFile old new due e h = h.1
+  -- a program was taken or not, and said something of
+  of_saying : (B : List ℕ → Rule → Span → Type 0) (D : List ℕ → List (List ℕ) → Type 0) (program : List ℕ) (due : List (List ℕ)) (e : Ending) →
+      (Lacks old.shelf.files program → LacksFile old.shelf.files command) → (BreaksRule B program old.shelf.files → IsRefusedBy old.shelf.files command) →
+      BoundHolds old.shelf.files command → SaysEnds B D program old.shelf new.shelf due e → Cause old new command due e
+  of_saying B D program _ _ lacks breaks holds (said text due h d k) = by_done command due holds k
+  of_saying B D program _ _ lacks breaks holds (unsaid e f) = of_program B program e lacks breaks f
 
-usage_ends : (command : Option Command) (status : Status) (old new : Outside) (due : List ℕ) → number_of status ≡ 2 → CommandEnds command status old new due → command ≡ None
-usage_ends (Some (Print program)) status old new due e h = absurd (says_number status program old.files old.load_faults new.load_faults due 2 e h.case (λ h. omega (arith, h)) (λ h. omega (arith, h)) (λ h. omega (arith, h)) (λ h. omega (arith, h)) (λ h. omega (arith, h)))
-usage_ends (Some (Rules program)) status old new due e h = absurd (says_number status program old.files old.load_faults new.load_faults due 2 e h.case (λ h. omega (arith, h)) (λ h. omega (arith, h)) (λ h. omega (arith, h)) (λ h. omega (arith, h)) (λ h. omega (arith, h)))
-usage_ends (Some (Check image cert costs)) status old new due e h = absurd (check_number status image cert costs old.files old.load_faults new.load_faults due 2 e h.case (λ h. omega (arith, h)) (λ h. omega (arith, h)) (λ h. omega (arith, h)) (λ h. omega (arith, h)) (λ h. omega (arith, h)) (λ h. omega (arith, h)) (λ h. omega (arith, h)))
-usage_ends command Done old new due e h = absurd (omega arith)
-usage_ends command Refused old new due e h = absurd (omega arith)
-usage_ends None Usage old new due e h = refl
-usage_ends (Some (Go program name)) Usage old new due e h = absurd h
-usage_ends command ReadFault old new due e h = absurd (omega arith)
-usage_ends command WriteFault old new due e h = absurd (omega arith)
-usage_ends command WantOfMemory old new due e h = absurd (omega arith)
-usage_ends command BadForm old new due e h = absurd (omega arith)
-usage_ends command NotAccepted old new due e h = absurd (omega arith)
-usage_ends command StoreFault old new due e h = absurd (omega arith)
-usage_ends command NotBuilt old new due e h = absurd (omega arith)
-usage_ends command NoFile old new due e h = absurd (omega arith)
+module _ (old new : Outside) where
+  of_build : (program name : List ℕ) (e : Ending) → BuildFails program old.shelf new.shelf e → Cause old new (Some (Go program name)) (line_of e ∷ []) e
+  of_build program name _ (unread e f) =
+      of_program old new (Some (Go program name)) BreaksFirst program e (go_lacks program name) (go_refused program name) f
+  of_build program name _ (not_small n k) = by_form (Some (Go program name)) k
 
-none_ends : (status : Status) (old new : Outside) (due : List ℕ) → UsageEnds status old new due → number_of status ≡ 2
-none_ends Done old new due h = absurd h
-none_ends Refused old new due h = absurd h
-none_ends Usage old new due h = refl
-none_ends ReadFault old new due h = absurd h
-none_ends WriteFault old new due h = absurd h
-none_ends WantOfMemory old new due h = absurd h
-none_ends BadForm old new due h = absurd h
-none_ends NotAccepted old new due h = absurd h
-none_ends StoreFault old new due h = absurd h
-none_ends NotBuilt old new due h = absurd h
-none_ends NoFile old new due h = absurd h
+  of_go : (program name : List ℕ) (e : Ending) → IsUnready program name old.shelf new.shelf e → Cause old new (Some (Go program name)) (line_of e ∷ []) e
+  of_go program name _ (unbuilt e f) = of_build program name e f
+  of_go program name _ (unstored _ image b (store_fault f)) = by_store program name image b f
+  of_go program name _ (unstored _ image b (store_memory k)) = by_memory (Some (Go program name)) k
+  of_go program name _ (unloaded image m) = by_stored program name image m
 
-bound_ends : (command : Option Command) (status : Status) (old new : Outside) (due : List ℕ) → number_of status ≡ 0 → CommandEnds command status old new due → BoundHolds command old.files
-bound_ends (Some (Print program)) status old new due e h = tt
-bound_ends (Some (Rules program)) status old new due e h = tt
-bound_ends (Some (Check image cert costs)) status old new due e h = check_bound status image cert costs old.files old.load_faults new.load_faults due e h.case
-bound_ends (Some (Go program name)) status old new due e h = tt
-bound_ends None Done old new due e h = absurd h
-bound_ends None Refused old new due e h = absurd h
-bound_ends None Usage old new due e h = absurd (omega arith)
-bound_ends None ReadFault old new due e h = absurd h
-bound_ends None WriteFault old new due e h = absurd h
-bound_ends None WantOfMemory old new due e h = absurd h
-bound_ends None BadForm old new due e h = absurd h
-bound_ends None NotAccepted old new due e h = absurd h
-bound_ends None StoreFault old new due e h = absurd h
-bound_ends None NotBuilt old new due e h = absurd h
-bound_ends None NoFile old new due e h = absurd h
+  module _ (image cert costs : List ℕ) where
+    of_image : (text : List ℕ) (e : Ending) → IsAsBefore old.shelf new.shelf → ImageFails text e → Cause old new (Some (Check image cert costs)) (line_of e ∷ []) e
+    of_image text _ k (bad_image number f) = by_image (Some (Check image cert costs)) _ number k
+    of_image text _ k image_memory = by_memory (Some (Check image cert costs)) k
 
-refused_ends : (command : Option Command) (status : Status) (old new : Outside) (due : List ℕ) → number_of status ≡ 1 → CommandEnds command status old new due → IsRefusedBy command old.files
-refused_ends (Some (Print program)) status old new due e h = says_refused status program old.files old.load_faults new.load_faults due e h.case
-refused_ends (Some (Rules program)) status old new due e h = says_refused status program old.files old.load_faults new.load_faults due e h.case
-refused_ends (Some (Check image cert costs)) status old new due e h = absurd (check_number status image cert costs old.files old.load_faults new.load_faults due 1 e h.case (λ h. omega (arith, h)) (λ h. omega (arith, h)) (λ h. omega (arith, h)) (λ h. omega (arith, h)) (λ h. omega (arith, h)) (λ h. omega (arith, h)) (λ h. omega (arith, h)))
-refused_ends command Done old new due e h = absurd (omega arith)
-refused_ends None Refused old new due e h = absurd h
-refused_ends (Some (Go program name)) Refused old new due e h = breaks_of program old.files due h.0
-refused_ends command Usage old new due e h = absurd (omega arith)
-refused_ends command ReadFault old new due e h = absurd (omega arith)
-refused_ends command WriteFault old new due e h = absurd (omega arith)
-refused_ends command WantOfMemory old new due e h = absurd (omega arith)
-refused_ends command BadForm old new due e h = absurd (omega arith)
-refused_ends command NotAccepted old new due e h = absurd (omega arith)
-refused_ends command StoreFault old new due e h = absurd (omega arith)
-refused_ends command NotBuilt old new due e h = absurd (omega arith)
-refused_ends command NoFile old new due e h = absurd (omega arith)
+    of_cert : (text : List ℕ) (e : Ending) → IsAsBefore old.shelf new.shelf → CertFails text e → Cause old new (Some (Check image cert costs)) (line_of e ∷ []) e
+    of_cert text _ k (bad_cert number f) = by_cert (Some (Check image cert costs)) _ number k
+    of_cert text _ k cert_memory = by_memory (Some (Check image cert costs)) k
 
--- the answer is the status's number, or a push or flush failed
-by_answer : (status : Status) (due : List ℕ) (before after : Written) (answer : ℕ) → Answers status due before after answer
-    → (answer ≡ number_of status) ⊎ ((answer ≡ 4) × Rose before.faults after.faults)
-by_answer status due before after answer (whole e a) = inl e
-by_answer status due before after answer (failed e r a) = inr (e, r)
+    of_decided : (image_text cert_text : List ℕ) (i : Parts) (c : CertParts) (line : List ℕ) (e : Ending) → costs ≡ unit_word → AreLoaded image cert old.shelf new.shelf image_text cert_text →
+        AreRead image_text cert_text i c → Decided i c unit line e → Cause old new (Some (Check image cert costs)) (line ∷ []) e
+    of_decided image_text cert_text i c _ _ units l r (accepted reached y) =
+        by_done (Some (Check image cert costs)) _
+        (record {
+          units = units;
+          image_text = image_text;
+          cert_text = cert_text;
+          image_held = l.image_held;
+          cert_held = l.cert_held;
+          image_read = i;
+          cert_read = c;
+          image_is = r.image_is;
+          cert_is = r.cert_is;
+          free_ticks = y.free_ticks;
+          runs = y.runs;
+        })
+        l.kept
+    of_decided image_text cert_text i c _ _ units l r (not_accepted d f) = by_demand (Some (Check image cert costs)) _ d l.kept
 
-pub read_fault : (words : List (List ℕ)) (old new : Outside) (before after : Written) (answer : ℕ) → Comes words old new before after answer → answer ≡ 3
-    → Rose old.load_faults new.load_faults ⊎ Rose old.source_faults new.source_faults
-read_fault words old new before after answer c e =
-    ⊎_elim (λ h. read_ends (command_of words) c.status old new c.due (sym h ∙ e) c.ends) (λ h. let f = h.0 in absurd (omega arith)) (by_answer c.status c.due before after answer c.answers)
+    of_judged : (image_text cert_text line : List ℕ) (e : Ending) → costs ≡ unit_word → AreLoaded image cert old.shelf new.shelf image_text cert_text →
+        Judged image_text cert_text unit line e → Cause old new (Some (Check image cert costs)) (line ∷ []) e
+    of_judged image_text cert_text _ _ units l (image_fails e f) = of_image image_text e l.kept f
+    of_judged image_text cert_text _ _ units l (cert_fails e i is f) = of_cert cert_text e l.kept f
+    of_judged image_text cert_text _ _ units l (not_plain i c r n) = by_form (Some (Check image cert costs)) l.kept
+    of_judged image_text cert_text _ _ units l (decided i c line e r d) = of_decided image_text cert_text i c line e units l r d
 
-pub store_fault : (words : List (List ℕ)) (old new : Outside) (before after : Written) (answer : ℕ) → Comes words old new before after answer → answer ≡ 11 → Rose old.store_faults new.store_faults
-store_fault words old new before after answer c e =
-    ⊎_elim (λ h. store_ends (command_of words) c.status old new c.due (sym h ∙ e) c.ends) (λ h. let f = h.0 in absurd (omega arith)) (by_answer c.status c.due before after answer c.answers)
+    of_loads : (e : Ending) → LoadsFail image cert old.shelf new.shelf e → Cause old new (Some (Check image cert costs)) (line_of e ∷ []) e
+    of_loads _ (no_image e f) = of_load old new (Some (Check image cert costs)) image e (check_lacks image cert costs) f
+    of_loads _ (no_cert e text h f) = of_load old new (Some (Check image cert costs)) cert e (check_lacks_cert image cert costs text h) f
 
-pub write_fault : (words : List (List ℕ)) (old new : Outside) (before after : Written) (answer : ℕ) → Comes words old new before after answer → answer ≡ 4 → Rose before.faults after.faults
-write_fault words old new before after answer c e =
-    ⊎_elim (λ h. absurd (write_ends (command_of words) c.status old new c.due (sym h ∙ e) c.ends)) (λ h. h.1) (by_answer c.status c.due before after answer c.answers)
+    of_check : (due : List (List ℕ)) (e : Ending) → CheckEnds image cert costs old.shelf new.shelf due e → Cause old new (Some (Check image cert costs)) due e
+    of_check _ _ (other_costs other k) = by_form (Some (Check image cert costs)) k
+    of_check _ _ (not_loaded e units f) = of_loads e f
+    of_check _ _ (judged image_text cert_text line e units l j) = of_judged image_text cert_text line e units l j
 
-pub no_file : (words : List (List ℕ)) (old new : Outside) (before after : Written) (answer : ℕ) → Comes words old new before after answer → answer ≡ 17 → LacksFile (command_of words) old.files
-no_file words old new before after answer c e =
-    ⊎_elim (λ h. no_file_ends (command_of words) c.status old new c.due (sym h ∙ e) c.ends) (λ h. let f = h.0 in absurd (omega arith)) (by_answer c.status c.due before after answer c.answers)
-
-pub usage : (words : List (List ℕ)) (old new : Outside) (before after : Written) (answer : ℕ) → Comes words old new before after answer → answer ≡ 2 → command_of words ≡ None
-usage words old new before after answer c e =
-    ⊎_elim (λ h. usage_ends (command_of words) c.status old new c.due (sym h ∙ e) c.ends) (λ h. let f = h.0 in absurd (omega arith)) (by_answer c.status c.due before after answer c.answers)
-
-pub usage_comes : (words : List (List ℕ)) (old new : Outside) (before after : Written) (answer : ℕ) → Comes words old new before after answer → command_of words ≡ None → (answer ≡ 2) ⊎ (answer ≡ 4)
-usage_comes words old new before after answer c none =
-    let P : Option Command → Type 0 = λ command. CommandEnds command c.status old new c.due in
-    ⊎_elim (λ h. inl (h ∙ none_ends c.status old new c.due (subst P none c.ends))) (λ h. inr h.0) (by_answer c.status c.due before after answer c.answers)
-
-pub bound : (words : List (List ℕ)) (old new : Outside) (before after : Written) (answer : ℕ) → Comes words old new before after answer → answer ≡ 0 → BoundHolds (command_of words) old.files
-bound words old new before after answer c e =
-    ⊎_elim (λ h. bound_ends (command_of words) c.status old new c.due (sym h ∙ e) c.ends) (λ h. let f = h.0 in absurd (omega arith)) (by_answer c.status c.due before after answer c.answers)
-
-pub refused : (words : List (List ℕ)) (old new : Outside) (before after : Written) (answer : ℕ) → Comes words old new before after answer → answer ≡ 1 → IsRefusedBy (command_of words) old.files
-refused words old new before after answer c e =
-    ⊎_elim (λ h. refused_ends (command_of words) c.status old new c.due (sym h ∙ e) c.ends) (λ h. let f = h.0 in absurd (omega arith)) (by_answer c.status c.due before after answer c.answers)
+  pub cause : (command : Option (Command (List ℕ))) (due : List (List ℕ)) (e : Ending) → Ends old new command due e → Cause old new command due e
+  cause _ _ _ (no_command s) = by_usage s
+  cause _ _ _ (go_ends program image e f) = of_go program image e f
+  cause _ _ _ (check_ends image cert costs due e f) = of_check image cert costs due e f
+  cause _ _ _ (print_ends program due e f) =
+      of_saying old new (Some (Print program)) source.Breaks IsPrinted program due e (print_lacks program) (print_refused program) tt f
+  cause _ _ _ (rules_ends program due e f) =
+      of_saying old new (Some (Rules program)) BreaksFirst IsRuled program due e (rules_lacks program) (rules_refused program) tt f

@@ -3,7 +3,7 @@ use Rattle.std.proofs.Common.{◌≡◌, ℕ, zero, suc, ◌+◌, ◌-◌, ◌^�
 use Rattle.std.specs.Int.{w32}
 use Rattle.std.proofs.lemmas.List.Elements.{All-cons, All-nil}
 use Rattle.pt_trace.specs.Trace.{Line, Reading, Row, Refused, reading, counted, numbers, before, number, natural, signed_up_to, content, words, lines}
-use Rattle.pt_trace.specs.Rows.{rows_from, rows_of, onto}
+use Rattle.pt_trace.specs.Rows.{rows_from, onto}
 use Rattle.pt_trace.specs.declared.rows.Rows.{Rows}
 
 -- a row of this width, of words
@@ -78,10 +78,6 @@ onto_fits : (width k : ℕ) (r : Reading) (after : Rows) → MayBeRow width r �
 onto_fits width k (Row row) after f g = All-cons (IsWordRow width) row after.rows f g
 onto_fits width k (Refused rule) after f g = All-nil (IsWordRow width)
 
-rows_fit_from : (width k : ℕ) (ls : List Line) → All (IsWordRow width) (rows_from width k ls).rows
+pub rows_fit_from : (width k : ℕ) (ls : List Line) → All (IsWordRow width) (rows_from width k ls).rows
 rows_fit_from width k [] = All-nil (IsWordRow width)
 rows_fit_from width k (l ∷ ls) = onto_fits width k (reading width k l) (rows_from width (k + 1) ls) (reading_fits width k l) (rows_fit_from width (k + 1) ls)
-
--- the rows of a trace
-pub rows_fit : (width : ℕ) (bytes : List ℕ) → All (IsWordRow width) (rows_of width bytes).rows
-rows_fit width bytes = rows_fit_from width 1 (lines bytes)

@@ -1,6 +1,8 @@
 -- The causes of the statuses, each read off by its number: docs/commands.md, "Statuses".
-use Rattle.std.specs.Prelude.{◌≡◌, ℕ, List, Option, Some, None}
+use Rattle.std.specs.Prelude.{◌≡◌, ◌≢◌, ◌⊎◌, ℕ, true, List, Option, Some, None}
+use Rattle.pt_outside.specs.Counts.{Rose}
 use Rattle.pt_outside.specs.Files.{Files, Holds, Lacks}
+use Rattle.pt_outside.specs.Told.{SinkTold}
 use Rattle.mb_isa.specs.Costs.{unit}
 use Rattle.pt_image.specs.declared.Parts.{Parts}
 use Rattle.tk_cert.specs.declared.CertParts.{CertParts}
@@ -9,9 +11,13 @@ use Rattle.pt_base.specs.declared.Rule.{Rule}
 use Rattle.pt_base.specs.declared.Span.{Span}
 use Rattle.pc_source.specs.Sources.{Breaks}
 use Rattle.pc_verdict.specs.Verdicts.{BreaksFirst}
-use Rattle.pretc_top.specs.Go.{source_most}
-use Rattle.pretc_top.specs.Commands.{Command, Go, Check, Print, Rules}
-use Rattle.pretc_top.specs.Check.{image_most, cert_most, unit_word, LacksOne, IsImageText, IsCertText}
+use Rattle.pretc_run.specs.Writing.{Wrote}
+use Rattle.pretc_top.specs.declared.commands.Command.{Command}
+use Rattle.pretc_top.specs.declared.commands.Command.TheVariants.{Go, Check, Print, Rules}
+use Rattle.pretc_top.specs.Outside.{Outside, IsLater}
+use Rattle.pretc_top.specs.Loading.{source_most}
+use Rattle.pretc_top.specs.Check.{image_most, cert_most, unit_word, IsImageText, IsCertText}
+use Rattle.pretc_top.specs.Stands.{AfterReadFault, AfterWriteFault, AfterMemory, AfterBadTrace, AfterStoreFault}
 
 -- the program was loaded, and breaks this rule first, of those that are looked at
 pub record BreaksRule (B : List ℕ → Rule → Span → Type 0) (program : List ℕ) (files : Option Files) : Type 0 where
@@ -21,44 +27,64 @@ pub record BreaksRule (B : List ℕ → Rule → Span → Type 0) (program : Lis
   pub span : Span
   pub breaks : B text rule span
 
--- the file to be loaded next isn't among the files that the shelf tells of
-abbrev pub LacksFile : Option Command → Option Files → Type 0
-LacksFile None files = ⊥
-LacksFile (Some (Go program name)) files = Lacks files program
-LacksFile (Some (Check image cert costs)) files = LacksOne image cert files
-LacksFile (Some (Print program)) files = Lacks files program
-LacksFile (Some (Rules program)) files = Lacks files program
+-- the program of the command breaks a rule, and this is the first; `print` looks at size, tokens and grammar alone
+pub data IsRefusedBy (files : Option Files) : Option (Command (List ℕ)) → Type 0 where
+  go_refused : (program image : List ℕ) → BreaksRule BreaksFirst program files → IsRefusedBy files (Some (Go program image))
+  print_refused : (program : List ℕ) → BreaksRule Breaks program files → IsRefusedBy files (Some (Print program))
+  rules_refused : (program : List ℕ) → BreaksRule BreaksFirst program files → IsRefusedBy files (Some (Rules program))
 
--- the two files of a check at unit costs, with what their texts come to
-pub record ChecksTo (image cert costs : List ℕ) (files : Option Files) (P : List ℕ → List ℕ → Type 0) : Type 0 where
+-- the file to be loaded next isn't among the files that the shelf tells of
+pub data LacksFile (files : Option Files) : Option (Command (List ℕ)) → Type 0 where
+  go_lacks : (program image : List ℕ) → Lacks files program → LacksFile files (Some (Go program image))
+  check_lacks : (image cert costs : List ℕ) → Lacks files image → LacksFile files (Some (Check image cert costs))
+  check_lacks_cert : (image cert costs text : List ℕ) → Holds files image image_most text → Lacks files cert →
+      LacksFile files (Some (Check image cert costs))
+  print_lacks : (program : List ℕ) → Lacks files program → LacksFile files (Some (Print program))
+  rules_lacks : (program : List ℕ) → Lacks files program → LacksFile files (Some (Rules program))
+
+-- the two files of a check at unit costs were loaded, and the bound of the certificate bounds the image
+pub record IsBound (image cert costs : List ℕ) (files : Option Files) : Type 0 where
   pub units : costs ≡ unit_word
   pub image_text : List ℕ
   pub cert_text : List ℕ
   pub image_held : Holds files image image_most image_text
   pub cert_held : Holds files cert cert_most cert_text
-  pub comes : P image_text cert_text
+  pub image_read : Parts
+  pub cert_read : CertParts
+  pub image_is : IsImageText image_text image_read
+  pub cert_is : IsCertText cert_text cert_read
+  pub free_ticks : BoundsFreeTicks image_read unit cert_read.bound
+  pub runs : BoundsRuns image_read unit cert_read.bound
 
--- the bound of the certificate bounds the image
-pub record IsBound (image_text cert_text : List ℕ) : Type 0 where
-  pub image : Parts
-  pub cert : CertParts
-  pub image_is : IsImageText image_text image
-  pub cert_is : IsCertText cert_text cert
-  pub free_ticks : BoundsFreeTicks image unit cert.bound
-  pub runs : BoundsRuns image unit cert.bound
+-- the words are a command; where it is a check, the bound of its certificate bounds its image
+abbrev pub BoundHolds : Option Files → Option (Command (List ℕ)) → Type 0
+BoundHolds files None = ⊥
+BoundHolds files (Some (Check image cert costs)) = IsBound image cert costs files
+BoundHolds files (Some command) = Unit {0}
 
--- where the command is a check, the bound of its certificate bounds its image
-abbrev pub BoundHolds : Option Command → Option Files → Type 0
-BoundHolds None files = ⊥
-BoundHolds (Some (Go program name)) files = Unit {0}
-BoundHolds (Some (Check image cert costs)) files = ChecksTo image cert costs files IsBound
-BoundHolds (Some (Print program)) files = Unit {0}
-BoundHolds (Some (Rules program)) files = Unit {0}
+-- lines were written, one push a line, and none of it waits for a flush
+pub record IsSent (before after : SinkTold) : Type 0 where
+  pub lines : List (List ℕ)
+  pub wrote : Wrote before after lines
+  pub sent : after.sent ≡ true
 
--- the program of the command breaks a rule, and this is the first; `print` looks at size, tokens and grammar alone
-abbrev pub IsRefusedBy : Option Command → Option Files → Type 0
-IsRefusedBy None files = ⊥
-IsRefusedBy (Some (Go program name)) files = BreaksRule BreaksFirst program files
-IsRefusedBy (Some (Check image cert costs)) files = ⊥
-IsRefusedBy (Some (Print program)) files = BreaksRule Breaks program files
-IsRefusedBy (Some (Rules program)) files = BreaksRule BreaksFirst program files
+-- what an answer tells of its cause, and what stands after it
+pub record Causes (command : Option (Command (List ℕ))) (old new : Outside) (answer : ℕ) : Type 0 where
+  pub bound : answer ≡ 0 → BoundHolds old.shelf.files command
+  pub refused : answer ≡ 1 → IsRefusedBy old.shelf.files command
+  pub usage : answer ≡ 2 → command ≡ None
+  pub usage_comes : command ≡ None → (answer ≡ 2) ⊎ (answer ≡ 4)
+  pub read_fault : answer ≡ 3 → Rose old.shelf.load_faults new.shelf.load_faults ⊎ Rose old.source.faults new.source.faults
+  pub after_read_fault : answer ≡ 3 → AfterReadFault old new command
+  pub write_fault : answer ≡ 4 → Rose old.sink.faults new.sink.faults
+  pub after_write_fault : answer ≡ 4 → AfterWriteFault old new command
+  pub after_memory : answer ≡ 5 → AfterMemory old new command
+  pub bad_trace : answer ≡ 7 → AfterBadTrace old new command
+  pub store_fault : answer ≡ 11 → Rose old.shelf.store_faults new.shelf.store_faults
+  pub after_store_fault : answer ≡ 11 → AfterStoreFault old new command
+  pub no_file : answer ≡ 17 → LacksFile old.shelf.files command
+  pub sent : answer ≢ 4 → IsSent old.sink new.sink
+  pub load_kept : answer ≢ 3 → answer ≢ 4 → new.shelf.load_faults ≡ old.shelf.load_faults
+  pub pull_kept : answer ≢ 3 → answer ≢ 4 → new.source.faults ≡ old.source.faults
+  pub store_kept : answer ≢ 11 → answer ≢ 4 → new.shelf.store_faults ≡ old.shelf.store_faults
+  pub later : IsLater old new

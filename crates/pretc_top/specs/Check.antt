@@ -1,9 +1,9 @@
 -- What `check` comes to: docs/commands.md, "check".
-use Rattle.std.specs.Prelude.{◌≡◌, ◌≢◌, ◌⊎◌, ◌↔◌, ℕ, Bool, IsTrue, List, codes, Option, Some}
+use Rattle.std.specs.Prelude.{◌≡◌, ◌≢◌, ◌↔◌, ℕ, Bool, IsTrue, List, [], ◌∷◌, codes, Option, Some}
 use Rattle.pt_lines.specs.Forms.{IsFault}
-use Rattle.pt_outside.specs.Counts.{Rose}
-use Rattle.pt_outside.specs.Files.{Files, KeepsFiles, Holds, Lacks}
-use Rattle.pt_trace.specs.Verdict.{yes_line, no_line, image_line, cert_line}
+use Rattle.pt_outside.specs.Files.{Holds}
+use Rattle.pt_outside.specs.Told.{ShelfTold, SinkTold}
+use Rattle.pt_trace.specs.Verdict.{yes_line}
 use Rattle.pt_image.specs.declared.Parts.{Parts}
 use Rattle.pt_image.specs.Ranges.{IsImage}
 use Rattle.pt_image.specs.Form.{AreWords, image_form}
@@ -18,10 +18,11 @@ use Rattle.tk_cert.specs.Plain.{IsPlainCert}
 use Rattle.tk_cert.specs.Demands.{Demand, first_failing}
 use Rattle.tk_cert.specs.Conditions.{IsAccepted, demands}
 use Rattle.tk_check.specs.Bounded.{BoundsFreeTicks, BoundsRuns}
-use Rattle.pretc_top.specs.declared.statuses.Status.{Status}
-use Rattle.pretc_top.specs.declared.statuses.Status.TheVariants.{Done, ReadFault, WantOfMemory, BadForm, NotAccepted, NotBuilt, NoFile}
-use Rattle.pretc_top.specs.Commands.{line_of}
-use Rattle.pretc_top.specs.Go.{Outside, Written, Answers}
+use Rattle.pretc_run.specs.declared.endings.Ending.{Ending}
+use Rattle.pretc_run.specs.declared.endings.Ending.TheVariants.{Done, WantOfMemory, BadImage, BadCert, NotAccepted, NotBuilt}
+use Rattle.pretc_run.specs.Endings.{number_of, line_of}
+use Rattle.pretc_run.specs.Writing.{Answers}
+use Rattle.pretc_top.specs.Loading.{IsAsBefore, LoadFails}
 
 -- one byte more than an image file may have, and than a certificate file may have
 abbrev pub image_most : ℕ
@@ -50,92 +51,57 @@ pub record AreRead (image_text cert_text : List ℕ) (image : Parts) (cert : Cer
   pub image_is : IsImageText image_text image
   pub cert_is : IsCertText cert_text cert
 
--- both texts are in form, and both are plain
-pub record ArePlain (image_text cert_text : List ℕ) (image : Parts) (cert : CertParts) : Type 0 where
-  pub read : AreRead image_text cert_text image cert
-  pub image_plain : IsPlain image
-  pub cert_plain : IsPlainCert cert
-
 -- The certificate is accepted, so its bound bounds each free tick and each tick of each run.
-pub record IsYes (image : Parts) (cert : CertParts) (due : List ℕ) : Type 0 where
-  pub accepted : IsAccepted image cert unit
-  pub free_ticks : BoundsFreeTicks image unit cert.bound
-  pub runs : BoundsRuns image unit cert.bound
-  pub reached : Bool
-  pub reached_is : IsTrue reached ↔ IsCostOf image unit cert.walk cert.bound
-  pub worst : IsTrue reached → IsWorst image unit cert.bound
-  pub line : due ≡ yes_line cert.bound reached
+pub record IsYes (image : Parts) (cert : CertParts) (costs : List ℕ) (reached : Bool) : Type 0 where
+  pub accepted : IsAccepted image cert costs
+  pub free_ticks : BoundsFreeTicks image costs cert.bound
+  pub runs : BoundsRuns image costs cert.bound
+  pub reached_is : IsTrue reached ↔ IsCostOf image costs cert.walk cert.bound
+  pub worst : IsTrue reached → IsWorst image costs cert.bound
 
--- the line that names a demand
-abbrev pub line_of_demand : Demand → List ℕ
-line_of_demand d = no_line d.condition d.at d.level d.needed d.given
-
--- The certificate isn't accepted, and this is the first demand that fails.
-pub record IsNo (image : Parts) (cert : CertParts) (due : List ℕ) : Type 0 where
-  pub demand : Demand
-  pub fails : first_failing (demands image cert unit) ≡ Some demand
-  pub line : due ≡ line_of_demand demand
-
--- what the checker says of a plain image and a plain certificate
-pub data Answered (status : Status) (image : Parts) (cert : CertParts) (due : List ℕ) : Type 0 where
-  accepted : status ≡ Done → IsYes image cert due → Answered status image cert due
-  refused : status ≡ NotAccepted → IsNo image cert due → Answered status image cert due
-
--- Both are in form, and one of them isn't plain.
-pub record IsNotPlain (image_text cert_text : List ℕ) : Type 0 where
-  pub image : Parts
-  pub cert : CertParts
-  pub read : AreRead image_text cert_text image cert
-  pub not_plain : IsPlain image × IsPlainCert cert → ⊥
+-- the ending that names a demand
+abbrev pub refusal_of : Demand → Ending
+refusal_of d = NotAccepted d.condition d.at d.level d.needed d.given
 
 -- the image's text isn't read
-pub data ImageFails (status : Status) (text due : List ℕ) : Type 0 where
-  image_unformed : (number : ℕ) → status ≡ BadForm → IsFault image_form number text → due ≡ image_line number → ImageFails status text due
-  image_memory : status ≡ WantOfMemory → due ≡ line_of WantOfMemory → ImageFails status text due
+pub data ImageFails (text : List ℕ) : Ending → Type 0 where
+  bad_image : (number : ℕ) → IsFault image_form number text → ImageFails text (BadImage number)
+  image_memory : ImageFails text WantOfMemory
 
 -- the certificate's text isn't read
-pub data CertFails (status : Status) (text due : List ℕ) : Type 0 where
-  cert_unformed : (number : ℕ) → status ≡ BadForm → IsFault cert_form number text → due ≡ cert_line number → CertFails status text due
-  cert_memory : status ≡ WantOfMemory → due ≡ line_of WantOfMemory → CertFails status text due
+pub data CertFails (text : List ℕ) : Ending → Type 0 where
+  bad_cert : (number : ℕ) → IsFault cert_form number text → CertFails text (BadCert number)
+  cert_memory : CertFails text WantOfMemory
 
--- what the texts of the two files come to
-pub data Judged (status : Status) (image_text cert_text due : List ℕ) : Type 0 where
-  answered : (image : Parts) (cert : CertParts) → ArePlain image_text cert_text image cert → Answered status image cert due → Judged status image_text cert_text due
-  image_fails : ImageFails status image_text due → Judged status image_text cert_text due
-  cert_fails : (image : Parts) → IsImageText image_text image → CertFails status cert_text due → Judged status image_text cert_text due
-  not_plain : status ≡ NotBuilt → IsNotPlain image_text cert_text → due ≡ line_of NotBuilt → Judged status image_text cert_text due
+-- what the checker says, and the line that is due
+pub data Decided (image : Parts) (cert : CertParts) (costs : List ℕ) : List ℕ → Ending → Type 0 where
+  accepted : (reached : Bool) → IsYes image cert costs reached → Decided image cert costs (yes_line cert.bound reached) Done
+  not_accepted : (d : Demand) → first_failing (demands image cert costs) ≡ Some d → Decided image cert costs (line_of (refusal_of d)) (refusal_of d)
+
+-- what the two texts come to, and the line that is due: one isn't read, one isn't plain, or what the checker says of both
+pub data Judged (image_text cert_text : List ℕ) (costs : List ℕ) : List ℕ → Ending → Type 0 where
+  image_fails : (e : Ending) → ImageFails image_text e → Judged image_text cert_text costs (line_of e) e
+  cert_fails : (e : Ending) (image : Parts) → IsImageText image_text image → CertFails cert_text e → Judged image_text cert_text costs (line_of e) e
+  not_plain : (image : Parts) (cert : CertParts) → AreRead image_text cert_text image cert → (IsPlain image × IsPlainCert cert → ⊥) →
+      Judged image_text cert_text costs (line_of NotBuilt) NotBuilt
+  decided : (image : Parts) (cert : CertParts) (line : List ℕ) (e : Ending) → AreRead image_text cert_text image cert → Decided image cert costs line e →
+      Judged image_text cert_text costs line e
 
 -- both files were loaded, the image first
-pub record AreLoaded (image cert : List ℕ) (files : Option Files) (image_text cert_text : List ℕ) : Type 0 where
-  pub image_held : Holds files image image_most image_text
-  pub cert_held : Holds files cert cert_most cert_text
+pub record AreLoaded (image cert : List ℕ) (old new : ShelfTold) (image_text cert_text : List ℕ) : Type 0 where
+  pub image_held : Holds old.files image image_most image_text
+  pub cert_held : Holds old.files cert cert_most cert_text
+  pub kept : IsAsBefore old new
 
--- the file to be loaded next isn't there
-abbrev pub LacksOne : List ℕ → List ℕ → Option Files → Type 0
-LacksOne image cert files = Lacks files image ⊎ ((text : List ℕ) × Holds files image image_most text × Lacks files cert)
+-- a file wasn't loaded
+pub data LoadsFail (image cert : List ℕ) (old new : ShelfTold) : Ending → Type 0 where
+  no_image : (e : Ending) → LoadFails image old new e → LoadsFail image cert old new e
+  no_cert : (e : Ending) (image_text : List ℕ) → Holds old.files image image_most image_text → LoadFails cert old new e → LoadsFail image cert old new e
 
--- a file wasn't loaded, by the count of load faults
-pub data LoadsFail (status : Status) (image cert : List ℕ) (files : Option Files) (before now : ℕ) : Type 0 where
-  load_failed : status ≡ ReadFault → Rose before now → LoadsFail status image cert files before now
-  load_lacks : status ≡ NoFile → LacksOne image cert files → LoadsFail status image cert files before now
-  load_memory : status ≡ WantOfMemory → LoadsFail status image cert files before now
-
--- how a check comes to its status, by the files and the count of load faults
-pub data CheckCase (status : Status) (image cert costs : List ℕ) (files : Option Files) (before now : ℕ) (due : List ℕ) : Type 0 where
-  other_costs : status ≡ NotBuilt → costs ≢ unit_word → now ≡ before → due ≡ line_of NotBuilt → CheckCase status image cert costs files before now due
-  not_loaded : costs ≡ unit_word → LoadsFail status image cert files before now → due ≡ line_of status → CheckCase status image cert costs files before now due
-  judged : (image_text cert_text : List ℕ) → costs ≡ unit_word → AreLoaded image cert files image_text cert_text → Judged status image_text cert_text due → CheckCase status image cert costs files before now due
-
--- how `check` comes to a status, with the text that is due then; files and source are as before
-pub record CheckEnds (status : Status) (image cert costs : List ℕ) (old new : Outside) (due : List ℕ) : Type 0 where
-  pub files : KeepsFiles old.files new.files
-  pub left : new.left ≡ old.left
-  pub source_faults : new.source_faults ≡ old.source_faults
-  pub case : CheckCase status image cert costs old.files old.load_faults new.load_faults due
-
--- what `check` comes to, by the files, the count of load faults and the sink
-pub record CheckComes (image cert costs : List ℕ) (files : Option Files) (before_faults faults : ℕ) (before after : Written) (answer : ℕ) : Type 0 where
-  pub status : Status
-  pub due : List ℕ
-  pub case : CheckCase status image cert costs files before_faults faults due
-  pub answers : Answers status due before after answer
+-- how `check` ends, with the lines that are due: another table than the unit table, a file that isn't loaded, or what the texts
+-- come to
+pub data CheckEnds (image cert costs : List ℕ) (old new : ShelfTold) : List (List ℕ) → Ending → Type 0 where
+  other_costs : costs ≢ unit_word → IsAsBefore old new → CheckEnds image cert costs old new (line_of NotBuilt ∷ []) NotBuilt
+  not_loaded : (e : Ending) → costs ≡ unit_word → LoadsFail image cert old new e → CheckEnds image cert costs old new (line_of e ∷ []) e
+  judged : (image_text cert_text line : List ℕ) (e : Ending) → costs ≡ unit_word → AreLoaded image cert old new image_text cert_text →
+      Judged image_text cert_text unit line e → CheckEnds image cert costs old new (line ∷ []) e

@@ -1,12 +1,10 @@
--- How the refusal of a program is said.
+-- How the refusal of a program ends a call.
 use Rattle.std.specs.Prelude.{◌≡◌}
 use Rattle.pt_base.specs.declared.Refusal.{Refusal}
 use Rattle.pt_base.specs.declared.Refusal.TheVariants.{Broken, Memory}
-use Rattle.pt_trace.specs.Refused.{refused_line}
-use Rattle.pretc_top.specs.declared.statuses.Status.TheVariants.{Refused, WantOfMemory}
-use Rattle.pretc_top.specs.declared.verdicts.Verdict.{Verdict}
-use Rattle.pretc_top.specs.Commands.{line_of}
+use Rattle.pretc_run.specs.declared.endings.Ending.{Ending}
+use Rattle.pretc_run.specs.declared.endings.Ending.TheVariants.{Refused, WantOfMemory}
 
-abbrev pub IsRefusal : Refusal → Verdict → Type 0
-IsRefusal (Broken rule span) v = (v.status ≡ Refused) × (v.line ≡ refused_line rule span.from span.to)
-IsRefusal Memory v = (v.status ≡ WantOfMemory) × (v.line ≡ line_of WantOfMemory)
+abbrev pub ending_of : Refusal → Ending
+ending_of (Broken rule span) = Refused rule span
+ending_of Memory = WantOfMemory

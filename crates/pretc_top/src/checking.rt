@@ -1,19 +1,18 @@
-ghost use Rattle.std.specs.Prelude.{◌≡◌, ◌≤◌, ◌↔◌, IsTrue, ℕ, List, IfOk, IfErr};
-ghost use Rattle.pt_outside.specs.Files.{KeepsFiles};
+ghost use Rattle.std.specs.Prelude.{◌≡◌, ◌↔◌, ◌∷◌, [], IsTrue, IfOk, IfErr};
+ghost use Rattle.mb_isa.specs.Costs.{unit};
 ghost use Rattle.mb_core.specs.Plain.{IsPlain};
 ghost use Rattle.tk_cert.specs.Plain.{IsPlainCert};
-ghost use Rattle.pretc_top.specs.Go.{written_is};
-ghost use Rattle.pretc_top.specs.Check.{unit_word, IsImageText, ImageFails, IsCertText, CertFails, Answered, Judged, AreLoaded, LoadsFail, CheckCase, CheckComes};
+ghost use Rattle.pretc_top.specs.Check.{unit_word, IsImageText, ImageFails, IsCertText, CertFails, Decided, Judged, AreLoaded, LoadsFail, CheckEnds};
+ghost use Rattle.pretc_top.specs.Comes.{Concludes};
 
-use crate::ending::finish_with;
+use crate::saying::{Saying, said};
 use crate::stages::load_text;
-use crate::statuses::Status;
-use crate::verdicts::{Verdict, said};
 use mb_isa::unit_costs;
+use pretc_run::{Ending, finish_with};
 use pt_base::Text;
 use pt_image::{Image, ImageFault};
 use pt_outside::{Shelf, Sink};
-use pt_trace::{LineBuffer, cert_line, image_line, no_line, yes_line};
+use pt_trace::{LineBuffer, yes_line};
 use std::alloc::Global;
 use tk_cert::{Cert, CertFault};
 use tk_check::{Answer, check};
@@ -24,58 +23,44 @@ const IMAGE_MOST: u64 = 16777217;
 const CERT_MOST: u64 = 1099511627777;
 
 // The image whose text it is.
-fn read_image(alloc: Global, text: &Text) -> Result<Image, Verdict>
+fn read_image(alloc: Global, text: &Text) -> Result<Image, Ending>
     ensures read { IfOk result (λ image. IsImageText text.now image) }
-    ensures failed { IfErr result (λ verdict. ImageFails verdict.status text.now verdict.line) }
+    ensures failed { IfErr result (λ e. ImageFails text.now e) }
 {
     match Image::read(alloc, text) {
         Ok(image) => {
             image.ranges();
             Ok(image)
         }
-        Err(ImageFault::Form { number }) => {
-            let mut line = LineBuffer::empty();
-            image_line(number, &mut line);
-            Err(Verdict {
-                status: Status::BadForm,
-                line,
-            })
-        }
-        Err(ImageFault::Memory) => Err(said(Status::WantOfMemory)),
+        Err(ImageFault::Form { number }) => Err(Ending::BadImage { number }),
+        Err(ImageFault::Memory) => Err(Ending::WantOfMemory),
     }
 }
 
 // The certificate whose text it is.
-fn read_cert(alloc: Global, text: &Text) -> Result<Cert, Verdict>
+fn read_cert(alloc: Global, text: &Text) -> Result<Cert, Ending>
     ensures read { IfOk result (λ cert. IsCertText text.now cert) }
-    ensures failed { IfErr result (λ verdict. CertFails verdict.status text.now verdict.line) }
+    ensures failed { IfErr result (λ e. CertFails text.now e) }
 {
     match Cert::read(alloc, text) {
         Ok(cert) => Ok(cert),
-        Err(CertFault::Form { number }) => {
-            let mut line = LineBuffer::empty();
-            cert_line(number, &mut line);
-            Err(Verdict {
-                status: Status::BadForm,
-                line,
-            })
-        }
-        Err(CertFault::Memory) => Err(said(Status::WantOfMemory)),
+        Err(CertFault::Form { number }) => Err(Ending::BadCert { number }),
+        Err(CertFault::Memory) => Err(Ending::WantOfMemory),
     }
 }
 
 // What the checker says of an image and its certificate.
-fn answered(image: &Image, cert: &Cert) -> Verdict
+fn decided(image: &Image, cert: &Cert) -> Saying
     requires image { IsPlain image.now }
     requires cert { IsPlainCert cert.now }
-    ensures { Answered result.status image.now cert.now result.line }
+    ensures { Decided image.now cert.now unit result.line result.ending }
 {
-    let mut line = LineBuffer::empty();
     match check(image, cert, &unit_costs()) {
         Answer::Yes { reached } => {
+            let mut line = LineBuffer::empty();
             yes_line(cert.bound(), reached, &mut line);
-            Verdict {
-                status: Status::Done,
+            Saying {
+                ending: Ending::Done,
                 line,
             }
         }
@@ -85,35 +70,35 @@ fn answered(image: &Image, cert: &Cert) -> Verdict
             level,
             needed,
             given,
-        } => {
-            no_line(condition, at, level, needed, given, &mut line);
-            Verdict {
-                status: Status::NotAccepted,
-                line,
-            }
-        }
+        } => said(Ending::NotAccepted {
+            condition,
+            at,
+            level,
+            needed,
+            given,
+        }),
     }
 }
 
 // What the texts of an image file and of a certificate file come to.
-fn judged(alloc: Global, image_text: &Text, cert_text: &Text) -> Verdict
-    ensures { Judged result.status image_text.now cert_text.now result.line }
+fn judged(alloc: Global, image_text: &Text, cert_text: &Text) -> Saying
+    ensures { Judged image_text.now cert_text.now unit result.line result.ending }
 {
     let image = match read_image(alloc, image_text) {
         Ok(image) => image,
-        Err(verdict) => return verdict,
+        Err(ending) => return said(ending),
     };
     let cert = match read_cert(alloc, cert_text) {
         Ok(cert) => cert,
-        Err(verdict) => return verdict,
+        Err(ending) => return said(ending),
     };
     if !mb_core::is_plain(&image) {
-        return said(Status::NotBuilt);
+        return said(Ending::NotBuilt);
     }
     if !tk_cert::is_plain(&cert) {
-        return said(Status::NotBuilt);
+        return said(Ending::NotBuilt);
     }
-    answered(&image, &cert)
+    decided(&image, &cert)
 }
 
 // The bytes of the two files, the image first.
@@ -122,20 +107,17 @@ fn load_both<H: Shelf>(
     image: &Text,
     cert: &Text,
     shelf: &mut H,
-) -> Result<(Text, Text), Status>
-    ensures loaded { IfOk result (λ texts. AreLoaded image.now cert.now (H.told shelf.old).files texts.0 texts.1) }
-    ensures failed { IfErr result (λ status. LoadsFail status image.now cert.now (H.told shelf.old).files (H.told shelf.old).load_faults (H.told shelf.new).load_faults) }
-    ensures files { KeepsFiles (H.told shelf.old).files (H.told shelf.new).files }
-    ensures load_faults { (H.told shelf.old).load_faults ≤ (H.told shelf.new).load_faults }
-    ensures store_faults { (H.told shelf.old).store_faults ≤ (H.told shelf.new).store_faults }
+) -> Result<(Text, Text), Ending>
+    ensures loaded { IfOk result (λ t. AreLoaded image.now cert.now (H.told shelf.old) (H.told shelf.new) t.0 t.1) }
+    ensures failed { IfErr result (λ e. LoadsFail image.now cert.now (H.told shelf.old) (H.told shelf.new) e) }
 {
     let image_text = match load_text(alloc, image, IMAGE_MOST, shelf) {
         Ok(text) => text,
-        Err(status) => return Err(status),
+        Err(ending) => return Err(ending),
     };
     match load_text(alloc, cert, CERT_MOST, shelf) {
         Ok(cert_text) => Ok((image_text, cert_text)),
-        Err(status) => Err(status),
+        Err(ending) => Err(ending),
     }
 }
 
@@ -147,24 +129,22 @@ fn is_unit(costs: &Text) -> bool
 }
 
 // What the words of a check come to.
-fn verdict_of<H: Shelf>(
+fn checked<H: Shelf>(
     alloc: Global,
     image: &Text,
     cert: &Text,
     costs: &Text,
     shelf: &mut H,
-) -> Verdict
-    ensures case { CheckCase result.status image.now cert.now costs.now (H.told shelf.old).files (H.told shelf.old).load_faults (H.told shelf.new).load_faults result.line }
-    ensures files { KeepsFiles (H.told shelf.old).files (H.told shelf.new).files }
-    ensures load_faults { (H.told shelf.old).load_faults ≤ (H.told shelf.new).load_faults }
-    ensures store_faults { (H.told shelf.old).store_faults ≤ (H.told shelf.new).store_faults }
+) -> Saying
+    ensures ends { CheckEnds image.now cert.now costs.now (H.told shelf.old) (H.told shelf.new)
+        (result.line ∷ []) result.ending }
 {
     if !is_unit(costs) {
-        return said(Status::NotBuilt);
+        return said(Ending::NotBuilt);
     }
     match load_both(alloc, image, cert, shelf) {
         Ok((image_text, cert_text)) => judged(alloc, &image_text, &cert_text),
-        Err(status) => said(status),
+        Err(ending) => said(ending),
     }
 }
 
@@ -177,12 +157,9 @@ pub fn check_files<H: Shelf, O: Sink>(
     shelf: &mut H,
     out: &mut O,
 ) -> u8
-    ensures comes { CheckComes image.now cert.now costs.now (H.told shelf.old).files (H.told shelf.old).load_faults (H.told shelf.new).load_faults (written_is (O.told out.old).written (O.told out.old).faults) (written_is (O.told out.new).written (O.told out.new).faults) result }
-    ensures files { KeepsFiles (H.told shelf.old).files (H.told shelf.new).files }
-    ensures load_faults { (H.told shelf.old).load_faults ≤ (H.told shelf.new).load_faults }
-    ensures store_faults { (H.told shelf.old).store_faults ≤ (H.told shelf.new).store_faults }
-    ensures sink_faults { (O.told out.old).faults ≤ (O.told out.new).faults }
+    ensures concludes { Concludes (CheckEnds image.now cert.now costs.now (H.told shelf.old) (H.told shelf.new))
+        (O.told out.old) (O.told out.new) result }
 {
-    let verdict = verdict_of(alloc, image, cert, costs, shelf);
-    finish_with(verdict.status, verdict.line.bytes(), out)
+    let said = checked(alloc, image, cert, costs, shelf);
+    finish_with(said.ending, said.line.bytes(), out)
 }

@@ -1,28 +1,33 @@
-ghost use Rattle.std.specs.Prelude.{◌≡◌, ◌<◌, ◌≤◌, ◌+◌, length, drop, IfOk, IfErr, OnOk, OnErr};
-ghost use Rattle.std.specs.Io.KnownBytes.{Appends};
-ghost use Rattle.pt_outside.specs.Files.{AppendsFront};
-ghost use Rattle.pt_outside.specs.Files.{KeepsFiles};
-ghost use Rattle.pretc_top.specs.Reported.{HasFault};
+ghost use Rattle.std.specs.Prelude.{◌≡◌, ◌<◌, ◌≤◌, ◌+◌, ◌∷◌, ◌++◌, ℕ, List, length, drop, take, map, IfOk, IfErr, OnOk, OnErr};
 ghost use Rattle.pc_source.specs.Sources.{Breaks};
-ghost use Rattle.pretc_top.specs.Go.{Answers, written_is};
-ghost use Rattle.pretc_top.specs.Says.{SaysCase, SaysComes, IsPrinted};
+ghost use Rattle.pt_trace.specs.Next.{line_feed};
+ghost use Rattle.pretc_run.specs.Writing.{Answers};
+ghost use Rattle.pretc_top.specs.Loading.{IsLoaded, IsAsBefore, ProgramFails};
+ghost use Rattle.pretc_top.specs.Says.{lines_of, PrintsTree, IsPrinted, Pushes, SaysEnds};
+ghost use Rattle.pretc_top.specs.Comes.{Concludes};
 
-use crate::ending::{close, finish_with};
 use crate::stages::load_program;
-use crate::statuses::Status;
-use crate::verdicts::{Verdict, said};
 use pc_print::print;
+use pretc_run::{Ending, WRITE_FAULT, close, finish, push_line};
 use pt_base::Text;
 use pt_outside::{Failed, Shelf, Sink};
 use std::alloc::Global;
 
+// Where the first line feed stands.
+fn line_feed(text: &[u8]) -> Option<usize>
+    ensures { result ≡ line_feed text.now }
+{
+    text.iter().position(|byte| *byte == b'\n')
+}
+
 // The bytes of the first line of a text, its line feed included.
 fn line_length(text: &[u8]) -> usize
     requires { 0 < length text.now }
+    ensures first { lines_of text.now ≡ take result text.now ∷ lines_of (drop result text.now) }
     ensures positive { 0 < result }
     ensures within { result ≤ length text.now }
 {
-    match text.iter().position(|byte| *byte == b'\n') {
+    match line_feed(text) {
         Some(at) => at + 1,
         None => text.len(),
     }
@@ -36,16 +41,14 @@ fn behind(bytes: &[u8], n: usize) -> &[u8]
     &bytes[n..]
 }
 
-/// Pushes a text line by line.
-pub fn push_lines<O: Sink>(text: &[u8], out: &mut O) -> Result<(), Failed>
-    ensures whole { OnOk result (Appends (O.told out.old).written (O.told out.new).written text.now) }
-    ensures front { OnErr result (AppendsFront (O.told out.old).written (O.told out.new).written text.now) }
-    ensures cause { HasFault (O.told out.old).faults (O.told out.new).faults result }
+// Pushes a text, one push a line.
+fn push_lines<O: Sink>(text: &[u8], out: &mut O) -> Result<(), Failed>
+    ensures { Pushes (lines_of text.now) (O.told out.old) (O.told out.new) result }
 {
     let mut rest = text;
     'lines: while 0 < rest.len() {
         let n = line_length(rest);
-        match out.push(&rest[..n]) {
+        match push_line(&rest[..n], out) {
             Ok(()) => {}
             Err(failed) => return Err(failed),
         }
@@ -55,31 +58,28 @@ pub fn push_lines<O: Sink>(text: &[u8], out: &mut O) -> Result<(), Failed>
 }
 
 // The text of a loaded program.
-fn printed<H: Shelf>(alloc: Global, program: &Text, shelf: &mut H) -> Result<Text, Verdict>
-    ensures printed { IfOk result (λ text. SaysCase Breaks IsPrinted Status.Done program.now (H.told shelf.old).files (H.told shelf.old).load_faults (H.told shelf.new).load_faults text) }
-    ensures failed { IfErr result (λ verdict. SaysCase Breaks IsPrinted verdict.status program.now (H.told shelf.old).files (H.told shelf.old).load_faults (H.told shelf.new).load_faults verdict.line) }
-    ensures files { KeepsFiles (H.told shelf.old).files (H.told shelf.new).files }
-    ensures load_faults { (H.told shelf.old).load_faults ≤ (H.told shelf.new).load_faults }
-    ensures store_faults { (H.told shelf.old).store_faults ≤ (H.told shelf.new).store_faults }
+fn printed<H: Shelf>(alloc: Global, program: &Text, shelf: &mut H) -> Result<Text, Ending>
+    ensures printed { IfOk result (λ text. PrintsTree program.now (H.told shelf.old).files text) }
+    ensures kept { OnOk result (IsAsBefore (H.told shelf.old) (H.told shelf.new)) }
+    ensures failed { IfErr result (λ e. ProgramFails Breaks program.now (H.told shelf.old) (H.told shelf.new) e) }
 {
     let tree = match load_program(alloc, program, shelf) {
         Ok(tree) => tree,
-        Err(verdict) => return Err(verdict),
+        Err(ending) => return Err(ending),
     };
     match print(alloc, &tree) {
         Ok(text) => Ok(text),
-        Err(_) => Err(said(Status::WantOfMemory)),
+        Err(_) => Err(Ending::WantOfMemory),
     }
 }
 
 // The end of a call that has this text to print, line by line.
 fn finish_lines<O: Sink>(text: &[u8], out: &mut O) -> u8
-    ensures answers { Answers Status.Done text.now (written_is (O.told out.old).written (O.told out.old).faults) (written_is (O.told out.new).written (O.told out.new).faults) result }
-    ensures faults { (O.told out.old).faults ≤ (O.told out.new).faults }
+    ensures answers { Answers (lines_of text.now) 0 (O.told out.old) (O.told out.new) result }
 {
     match push_lines(text, out) {
-        Ok(()) => close(Status::Done, out),
-        Err(_) => 4,
+        Ok(()) => close(Ending::Done, out),
+        Err(_) => WRITE_FAULT,
     }
 }
 
@@ -90,14 +90,11 @@ pub fn print_program<H: Shelf, O: Sink>(
     shelf: &mut H,
     out: &mut O,
 ) -> u8
-    ensures comes { SaysComes Breaks IsPrinted program.now (H.told shelf.old).files (H.told shelf.old).load_faults (H.told shelf.new).load_faults (written_is (O.told out.old).written (O.told out.old).faults) (written_is (O.told out.new).written (O.told out.new).faults) result }
-    ensures files { KeepsFiles (H.told shelf.old).files (H.told shelf.new).files }
-    ensures load_faults { (H.told shelf.old).load_faults ≤ (H.told shelf.new).load_faults }
-    ensures store_faults { (H.told shelf.old).store_faults ≤ (H.told shelf.new).store_faults }
-    ensures sink_faults { (O.told out.old).faults ≤ (O.told out.new).faults }
+    ensures concludes { Concludes (SaysEnds Breaks IsPrinted program.now (H.told shelf.old) (H.told shelf.new))
+        (O.told out.old) (O.told out.new) result }
 {
     match printed(alloc, program, shelf) {
         Ok(text) => finish_lines(text.bytes(), out),
-        Err(verdict) => finish_with(verdict.status, verdict.line.bytes(), out),
+        Err(ending) => finish(ending, out),
     }
 }

@@ -1,6 +1,8 @@
 use Rattle.std.proofs.Common.{refl}
-use Rattle.pretc_run.proofs.Written.{not_sent}
+use Rattle.pretc_run.specs.Writing.{unsent}
 use Rattle.pretc_run.proofs.closing.close.Goals as goal
 
 pub returns-in-Err : goal.returns-in-Err
-returns-in-Err g c = record { answers = not_sent _ _ _ _ refl c.flush.ensures.written c.flush.ensures.cause.later c.in-Err.ensures.cause.failed }
+returns-in-Err g c = record {
+  closes = unsent refl (record { written = c.flush.ensures.written; later = c.flush.ensures.cause.later; rose = c.in-Err.ensures.cause.failed });
+}

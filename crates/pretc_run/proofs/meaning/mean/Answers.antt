@@ -2,9 +2,9 @@ use Rattle.std.proofs.Common.{[], refl, sym, ap, subst, ◌∙◌}
 use Rattle.pt_outside.specs.Told.{SourceTold}
 use Rattle.pt_trace.specs.Readings.{begun}
 use Rattle.pc_meaning.specs.Programs.{program_of}
-use Rattle.pretc_run.specs.Meant.{mean_ends, mean_breaks}
+use Rattle.pretc_run.specs.Meant.{mean_breaks}
 use Rattle.pretc_run.specs.MeanUnderWay.{MeanStart, IsMeaning}
-use Rattle.pretc_run.proofs.Written.{answers_closed}
+use Rattle.pretc_run.proofs.Reports.{mean_closes}
 use Rattle.pretc_run.proofs.MeanStepping.{mean_begins}
 use Rattle.pretc_run.proofs.meaning.mean.Goals as goal
 
@@ -14,7 +14,7 @@ returns-in-Ok g c =
     let P : SourceTold → Type 0 = λ t. IsMeaning start [] c.args.meaning.now c.begin-reader.result t (g.O.Sink.told c.args.out.now) in
     let u = mean_begins start c.args.meaning.now c.begin-reader.result refl c.requires.begun (c.begin-reader.ensures.reader ∙ ap begun c.requires.inputs) in
     let w = c.in-Ok.ensures.comes start (subst P (sym (ap g.I.Source.told c.begin-reader.ensures.input)) u) in
-    record { comes = mean_ends w.rows w.last c.in-Ok.ending w.ends (answers_closed _ _ _ _ _ _ w.wrote c.close.ensures.answers) }
+    record { comes = mean_closes _ _ _ _ _ _ _ _ w c.close.ensures.closes }
 
 pub returns-in-Err : goal.returns-in-Err
 returns-in-Err g c =

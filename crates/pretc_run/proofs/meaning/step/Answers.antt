@@ -32,4 +32,4 @@ returns-in-Err-clause-comes g c start rows u =
     let P : Ending → Type 0 = λ e. SaysLast e (line_of e) (g.O.Sink.told c.args.out.now) (g.O.Sink.told c.say.new.out) c.say.result in
     mean_is_faulty start rows c.args.meaning.now c.args.reader.now c.next.new.self c.in-Err.fault c.next.new.row
     (g.I.Source.told c.args.input.now) (g.I.Source.told c.next.new.input) (g.O.Sink.told c.args.out.now) (g.O.Sink.told c.say.new.out) c.say.result u opened
-    (c.in-Err.ensures.answer u.given.no_fault opened) c.in-Err.ensures.stays c.next.ensures.few_kept (subst P c.ending_of.ensures c.say.ensures)
+    (c.in-Err.ensures.answer u.given.no_fault opened) c.in-Err.ensures.stays c.next.ensures.later c.next.ensures.few_kept (subst P c.ending_of.ensures c.say.ensures)

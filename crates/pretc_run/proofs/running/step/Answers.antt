@@ -44,4 +44,4 @@ returns-in-Err-ReadFault-clause-comes g c start rows most u =
     let fault = subst Q c.in-Err-ReadFault.field-0-is (c.in-Err-ReadFault.ensures.answer u.given.no_fault opened) in
     says_fault start rows c.args.machine.now c.args.reader.now c.next.new.self c.args.worst.now
     (g.I.Source.told c.args.input.now) (g.I.Source.told c.next.new.input) (g.O.Sink.told c.args.out.now) (g.O.Sink.told c.say-in-Err-ReadFault.new.out) c.say-in-Err-ReadFault.result u opened fault
-    c.next.ensures.few_kept c.say-in-Err-ReadFault.ensures
+    c.next.ensures.later c.next.ensures.few_kept c.say-in-Err-ReadFault.ensures

@@ -1,37 +1,54 @@
-use Rattle.std.proofs.Common.{ℕ, List, Option, Some, ap, ◌∙◌, refl, subst}
-use Rattle.pretc_top.specs.Commands.{command_of}
-use Rattle.pretc_top.specs.Calls.{IsCall}
-use Rattle.pretc_top.specs.Go.{outside, written_is}
-use Rattle.pretc_top.specs.declared.calling.Call.{Call}
+use Rattle.std.proofs.Common.{ℕ, List, [], ◌∷◌, Option, Some, None, refl, sym, ap, subst, ◌∙◌}
+use Rattle.std.specs.Option.{option_map}
+use Rattle.pretc_run.specs.declared.endings.Ending.TheVariants.{Usage}
+use Rattle.pretc_run.specs.Endings.{line_of}
+use Rattle.pretc_top.specs.declared.commands.Command.{Command}
+use Rattle.pretc_top.specs.Named.{named}
+use Rattle.pretc_top.specs.Outside.{outside}
+use Rattle.pretc_top.specs.Comes.{Comes, ends, no_command}
 use Rattle.pretc_top.proofs.Called.{check_comes, print_comes, rules_comes}
 use Rattle.pretc_top.proofs.calling.called.Goals as goal
 
-pub returns-in-Some-Check-clause-comes : goal.returns-in-Some-Check-clause-comes
-returns-in-Some-Check-clause-comes g c =
-    let P : Option Call → Type 0 = λ r. IsCall r (command_of c.args.words.now.items) in
-    let Q : List (List ℕ) → Type 0 = λ words. IsCall c.call_of.result (command_of words) in
-    check_comes c.args.words.now.items c.in-Some-Check.image.now c.in-Some-Check.cert.now c.in-Some-Check.costs.now
-    (outside (g.H.Shelf.told c.args.shelf.now).files (g.H.Shelf.told c.args.shelf.now).load_faults (g.H.Shelf.told c.args.shelf.now).store_faults (g.I.Source.told c.args.input.now).left (g.I.Source.told c.args.input.now).faults)
-    (outside (g.H.Shelf.told c.check_files.new.shelf).files (g.H.Shelf.told c.check_files.new.shelf).load_faults (g.H.Shelf.told c.check_files.new.shelf).store_faults (g.I.Source.told c.args.input.now).left (g.I.Source.told c.args.input.now).faults)
-    (written_is (g.O.Sink.told c.args.out.now).written (g.O.Sink.told c.args.out.now).faults) (written_is (g.O.Sink.told c.check_files.new.out).written (g.O.Sink.told c.check_files.new.out).faults)
-    c.check_files.result (subst P (c.in-Some-Check.is ∙ ap Some c.in-Some-Check.field-0-is) (subst Q c.deref.ensures.value c.call_of.ensures)) c.check_files.ensures.files refl refl c.check_files.ensures.comes
+pub returns-in-None : goal.returns-in-None
+returns-in-None g c =
+    let P : Option (Command (List ℕ)) → Type 0 = λ command. Comes command
+    (outside (g.H.Shelf.told c.args.shelf.now) (g.I.Source.told c.args.input.now) (g.O.Sink.told c.args.out.now))
+    (outside (g.H.Shelf.told c.args.shelf.now) (g.I.Source.told c.args.input.now) (g.O.Sink.told c.finish.new.out)) c.finish.result in
+    record { comes = subst P (sym (ap (option_map named) c.in-None.is) ∙ c.command_of.ensures) (ends (line_of Usage ∷ []) Usage (no_command refl) refl c.finish.ensures.answers) }
 
-pub returns-in-Some-Print-clause-comes : goal.returns-in-Some-Print-clause-comes
-returns-in-Some-Print-clause-comes g c =
-    let P : Option Call → Type 0 = λ r. IsCall r (command_of c.args.words.now.items) in
-    let Q : List (List ℕ) → Type 0 = λ words. IsCall c.call_of.result (command_of words) in
-    print_comes c.args.words.now.items c.in-Some-Print.program.now
-    (outside (g.H.Shelf.told c.args.shelf.now).files (g.H.Shelf.told c.args.shelf.now).load_faults (g.H.Shelf.told c.args.shelf.now).store_faults (g.I.Source.told c.args.input.now).left (g.I.Source.told c.args.input.now).faults)
-    (outside (g.H.Shelf.told c.print_program.new.shelf).files (g.H.Shelf.told c.print_program.new.shelf).load_faults (g.H.Shelf.told c.print_program.new.shelf).store_faults (g.I.Source.told c.args.input.now).left (g.I.Source.told c.args.input.now).faults)
-    (written_is (g.O.Sink.told c.args.out.now).written (g.O.Sink.told c.args.out.now).faults) (written_is (g.O.Sink.told c.print_program.new.out).written (g.O.Sink.told c.print_program.new.out).faults)
-    c.print_program.result (subst P (c.in-Some-Print.is ∙ ap Some c.in-Some-Print.field-0-is) (subst Q c.deref.ensures.value c.call_of.ensures)) c.print_program.ensures.files refl refl c.print_program.ensures.comes
+pub returns-in-Some-Go : goal.returns-in-Some-Go
+returns-in-Some-Go g c =
+    let P : Option (Command (List ℕ)) → Type 0 = λ command. Comes command
+    (outside (g.H.Shelf.told c.args.shelf.now) (g.I.Source.told c.args.input.now) (g.O.Sink.told c.args.out.now))
+    (outside (g.H.Shelf.told c.go.new.shelf) (g.I.Source.told c.go.new.input) (g.O.Sink.told c.go.new.out)) c.go.result in
+    record { comes = subst P (sym (ap (option_map named) (c.in-Some-Go.is ∙ ap Some c.in-Some-Go.field-0-is)) ∙ c.command_of.ensures) c.go.ensures.comes }
 
-pub returns-in-Some-Rules-clause-comes : goal.returns-in-Some-Rules-clause-comes
-returns-in-Some-Rules-clause-comes g c =
-    let P : Option Call → Type 0 = λ r. IsCall r (command_of c.args.words.now.items) in
-    let Q : List (List ℕ) → Type 0 = λ words. IsCall c.call_of.result (command_of words) in
-    rules_comes c.args.words.now.items c.in-Some-Rules.program.now
-    (outside (g.H.Shelf.told c.args.shelf.now).files (g.H.Shelf.told c.args.shelf.now).load_faults (g.H.Shelf.told c.args.shelf.now).store_faults (g.I.Source.told c.args.input.now).left (g.I.Source.told c.args.input.now).faults)
-    (outside (g.H.Shelf.told c.rules_of_program.new.shelf).files (g.H.Shelf.told c.rules_of_program.new.shelf).load_faults (g.H.Shelf.told c.rules_of_program.new.shelf).store_faults (g.I.Source.told c.args.input.now).left (g.I.Source.told c.args.input.now).faults)
-    (written_is (g.O.Sink.told c.args.out.now).written (g.O.Sink.told c.args.out.now).faults) (written_is (g.O.Sink.told c.rules_of_program.new.out).written (g.O.Sink.told c.rules_of_program.new.out).faults)
-    c.rules_of_program.result (subst P (c.in-Some-Rules.is ∙ ap Some c.in-Some-Rules.field-0-is) (subst Q c.deref.ensures.value c.call_of.ensures)) c.rules_of_program.ensures.files refl refl c.rules_of_program.ensures.comes
+pub returns-in-Some-Check : goal.returns-in-Some-Check
+returns-in-Some-Check g c =
+    let P : Option (Command (List ℕ)) → Type 0 = λ command. Comes command
+    (outside (g.H.Shelf.told c.args.shelf.now) (g.I.Source.told c.args.input.now) (g.O.Sink.told c.args.out.now))
+    (outside (g.H.Shelf.told c.check_files.new.shelf) (g.I.Source.told c.args.input.now) (g.O.Sink.told c.check_files.new.out)) c.check_files.result in
+    record {
+      comes = subst P (sym (ap (option_map named) (c.in-Some-Check.is ∙ ap Some c.in-Some-Check.field-0-is)) ∙ c.command_of.ensures)
+          (check_comes _ _ _ _ _ _ _ _ _ c.check_files.ensures.concludes);
+    }
+
+pub returns-in-Some-Print : goal.returns-in-Some-Print
+returns-in-Some-Print g c =
+    let P : Option (Command (List ℕ)) → Type 0 = λ command. Comes command
+    (outside (g.H.Shelf.told c.args.shelf.now) (g.I.Source.told c.args.input.now) (g.O.Sink.told c.args.out.now))
+    (outside (g.H.Shelf.told c.print_program.new.shelf) (g.I.Source.told c.args.input.now) (g.O.Sink.told c.print_program.new.out)) c.print_program.result in
+    record {
+      comes = subst P (sym (ap (option_map named) (c.in-Some-Print.is ∙ ap Some c.in-Some-Print.field-0-is)) ∙ c.command_of.ensures)
+          (print_comes _ _ _ _ _ _ _ c.print_program.ensures.concludes);
+    }
+
+pub returns-in-Some-Rules : goal.returns-in-Some-Rules
+returns-in-Some-Rules g c =
+    let P : Option (Command (List ℕ)) → Type 0 = λ command. Comes command
+    (outside (g.H.Shelf.told c.args.shelf.now) (g.I.Source.told c.args.input.now) (g.O.Sink.told c.args.out.now))
+    (outside (g.H.Shelf.told c.rules_of_program.new.shelf) (g.I.Source.told c.args.input.now) (g.O.Sink.told c.rules_of_program.new.out)) c.rules_of_program.result in
+    record {
+      comes = subst P (sym (ap (option_map named) (c.in-Some-Rules.is ∙ ap Some c.in-Some-Rules.field-0-is)) ∙ c.command_of.ensures)
+          (rules_comes _ _ _ _ _ _ _ c.rules_of_program.ensures.concludes);
+    }

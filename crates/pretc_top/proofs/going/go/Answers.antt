@@ -1,20 +1,20 @@
-use Rattle.pt_trace.specs.Report.{run_text}
-use Rattle.pretc_top.specs.declared.statuses.Status.TheVariants.{Done}
-use Rattle.pretc_top.specs.Reported.{told_by}
-use Rattle.pretc_top.specs.Go.{cycles_most}
-use Rattle.pretc_top.proofs.Readied.{ready_widths, ready_ends, ready_done}
+use Rattle.std.proofs.Common.{[], ◌∷◌, refl}
+use Rattle.pretc_run.specs.Endings.{line_of}
+use Rattle.pretc_top.specs.Outside.{outside}
+use Rattle.pretc_top.specs.Comes.{ends, go_ends}
+use Rattle.pretc_top.proofs.Ready.{ready_reports}
 use Rattle.pretc_top.proofs.going.go.Goals as goal
 
-pub report-requires-clause-inputs : goal.report-requires-clause-inputs
-report-requires-clause-inputs g c = ready_widths _ _ _ _ c.in-Ok.ready.machine c.in-Ok.ready.rows _ c.in-Ok.ensures.ready
+pub returns-in-Ok : goal.returns-in-Ok
+returns-in-Ok g c = record {
+  comes =
+      ready_reports c.args.program.now c.args.name.now
+      (outside (g.H.Shelf.told c.args.shelf.now) (g.I.Source.told c.args.input.now) (g.O.Sink.told c.args.out.now))
+      (outside (g.H.Shelf.told c.prepare.new.shelf) (g.I.Source.told c.run.new.input) (g.O.Sink.told c.run.new.out))
+      _ _ _ c.run.result c.in-Ok.ensures.ready c.run.ensures.comes;
+}
 
-pub report-requires-clause-ends : goal.report-requires-clause-ends
-report-requires-clause-ends g c = ready_ends _ _ _ _ c.in-Ok.ready.machine c.in-Ok.ready.rows _ c.in-Ok.ensures.ready
-
-pub returns-in-Ok-clause-comes : goal.returns-in-Ok-clause-comes
-returns-in-Ok-clause-comes g c = record {
-  status = Done;
-  due = run_text (told_by c.in-Ok.ready.machine cycles_most c.in-Ok.ready.rows);
-  ends = ready_done _ _ _ _ c.in-Ok.ready.machine c.in-Ok.ready.rows _ c.in-Ok.ensures.ready;
-  answers = c.report.ensures.answers;
+pub returns-in-Err : goal.returns-in-Err
+returns-in-Err g c = record {
+  comes = ends (line_of c.in-Err.ending ∷ []) c.in-Err.ending (go_ends c.args.program.now c.args.name.now c.in-Err.ending c.in-Err.ensures.failed) refl c.finish.ensures.answers;
 }

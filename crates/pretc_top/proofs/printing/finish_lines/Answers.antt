@@ -1,9 +1,13 @@
-use Rattle.pretc_top.specs.declared.statuses.Status.TheVariants.{Done}
-use Rattle.pretc_top.specs.Go.{written_is}
-use Rattle.pretc_top.proofs.Answering.{answers_after}
+use Rattle.std.proofs.Common.{refl}
+use Rattle.pretc_run.specs.Writing.{broke_off}
+use Rattle.pretc_run.proofs.Written.{answers_closed}
+use Rattle.pretc_top.specs.Says.{lines_of}
 use Rattle.pretc_top.proofs.printing.finish_lines.Goals as goal
 
-pub returns-in-Ok-clause-answers : goal.returns-in-Ok-clause-answers
-returns-in-Ok-clause-answers g c =
-    answers_after Done c.args.text.now (written_is (g.O.Sink.told c.args.out.now).written (g.O.Sink.told c.args.out.now).faults) (written_is (g.O.Sink.told c.push_lines.new.out).written (g.O.Sink.told c.push_lines.new.out).faults) (written_is (g.O.Sink.told c.close.new.out).written (g.O.Sink.told c.close.new.out).faults) c.close.result
-    c.in-Ok.ensures.whole c.push_lines.ensures.cause.later c.close.ensures.answers
+pub returns-in-Ok : goal.returns-in-Ok
+returns-in-Ok g c = record { answers = answers_closed _ _ _ (lines_of c.args.text.now) 0 _ c.in-Ok.ensures c.close.ensures.closes }
+
+pub returns-in-Err : goal.returns-in-Err
+returns-in-Err g c =
+    let p = c.in-Err.ensures in
+    record { answers = broke_off p.0 p.1.0 refl p.1.1.0 p.1.1.1 }

@@ -1,0 +1,16 @@
+use Rattle.std.proofs.Common.{ℕ, List, [], ◌∷◌, subst}
+use Rattle.pretc_run.specs.Endings.{number_of}
+use Rattle.pretc_run.specs.Writing.{Answers}
+use Rattle.pretc_top.proofs.ruling.rules_of_program.Goals as goal
+
+pub returns : goal.returns
+returns g c =
+    let P : List ℕ → Type 0 = λ l. Answers (l ∷ []) (number_of c.ruled-said.result.ending) (g.O.Sink.told c.args.out.now) (g.O.Sink.told c.finish_with.new.out) c.finish_with.result in
+    record {
+      concludes = record {
+        due = c.ruled-said.result.line ∷ [];
+        ending = c.ruled-said.result.ending;
+        ends = c.ruled-said.ensures.ends;
+        answers = subst P c.bytes.ensures c.finish_with.ensures.answers;
+      };
+    }

@@ -1,0 +1,11 @@
+-- The command of borrowed names is that of the names.
+use Rattle.std.specs.Prelude.{ℕ, List, Option, Some, None}
+use Rattle.std.specs.Borrow.{Bor}
+use Rattle.pretc_top.specs.declared.commands.Command.{Command}
+use Rattle.pretc_top.specs.declared.commands.Command.TheVariants.{Go, Check, Print, Rules}
+
+abbrev pub named : Command (Bor (List ℕ)) → Command (List ℕ)
+named (Go program image) = Go program.now image.now
+named (Check image cert costs) = Check image.now cert.now costs.now
+named (Print program) = Print program.now
+named (Rules program) = Rules program.now

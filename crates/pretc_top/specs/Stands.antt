@@ -1,0 +1,72 @@
+-- What stands after a call that wasn't done: docs/commands.md, "Statuses".
+use Rattle.std.specs.Prelude.{◌≡◌, ◌≤◌, ◌+◌, ℕ, ℤ, List, [], ◌∷◌, ◌++◌, length, Option, Some}
+use Rattle.pt_trace.specs.Given.{HasRead, IsBad, IsCut}
+use Rattle.pt_image.specs.declared.image.Parts.{Parts}
+use Rattle.pt_image.specs.Text.{text_of}
+use Rattle.pretc_run.specs.declared.endings.Ending.{Ending}
+use Rattle.pretc_run.specs.declared.endings.Ending.TheVariants.{ReadFault, WantOfMemory, BadTrace, StoreFault}
+use Rattle.pretc_run.specs.Endings.{line_of}
+use Rattle.pretc_run.specs.Running.{HasFailed}
+use Rattle.pretc_run.specs.Writing.{first_of, Wrote, BrokeOff}
+use Rattle.pretc_top.specs.declared.commands.Command.{Command}
+use Rattle.pretc_top.specs.declared.commands.Command.TheVariants.{Go}
+use Rattle.pretc_top.specs.Outside.{Outside}
+use Rattle.pretc_top.specs.Loading.{IsAsBefore, IsFailedLoad}
+use Rattle.pretc_top.specs.Go.{go_lines, IsBuilt, IsFailedStore, IsMade}
+use Rattle.pretc_top.specs.Comes.{Ends}
+
+-- the line of this ending alone was written, and nothing of the trace was read
+pub record OnlySaid (old new : Outside) (e : Ending) : Type 0 where
+  pub wrote : Wrote old.sink new.sink (line_of e ∷ [])
+  pub source : new.source ≡ old.source
+
+-- Each step of `go` before the trace was done, the trace gave these rows, and the lines of their ticks were written and then
+-- that of this ending.
+pub record GoStopped (program name : List ℕ) (old new : Outside) (e : Ending) (P : (width : ℕ) → (rows : List (List ℤ)) → Type 0) : Type 0 where
+  pub image : Parts
+  pub made : IsMade program name image old.shelf new.shelf
+  pub rows : List (List ℤ)
+  pub trace : P (length image.inputs) rows
+  pub wrote : Wrote old.sink new.sink (go_lines image rows ++ line_of e ∷ [])
+
+-- 3: a load failed, or a pull of the trace, and the rows are then those of its lines that stand whole in what was pulled
+pub data AfterReadFault (old new : Outside) : Option (Command (List ℕ)) → Type 0 where
+  load_failed : (command : Option (Command (List ℕ))) → IsFailedLoad old.shelf new.shelf → OnlySaid old new ReadFault → AfterReadFault old new command
+  pull_failed : (program image : List ℕ) → HasFailed old.source new.source →
+      GoStopped program image old new ReadFault (λ width rows. IsCut width old.source.left new.source.left rows) →
+      AfterReadFault old new (Some (Go program image))
+
+-- The report of `go` broke off after the lines of the ticks on some rows, in the line after them. Of the trace no more was
+-- pulled than the lines of the rows that were read, at most one more than those, and 2,048 bytes.
+pub record GoPulled (program name : List ℕ) (old new : Outside) : Type 0 where
+  pub image : Parts
+  pub made : IsMade program name image old.shelf new.shelf
+  pub rows : List (List ℤ)
+  pub next : List ℕ
+  pub broke : BrokeOff old.sink new.sink (go_lines image rows) next
+  pub read : List (List ℤ)
+  pub has_read : HasRead (length image.inputs) old.source.left new.source.left read
+  pub one_more : length read ≤ length rows + 1
+
+-- 4: a front of the lines that were due was written, before the trace was read or in the report
+pub data AfterWriteFault (old new : Outside) : Option (Command (List ℕ)) → Type 0 where
+  before_the_trace : (command : Option (Command (List ℕ))) (due whole rest : List (List ℕ)) (e : Ending) → Ends old new command due e →
+      new.source ≡ old.source → due ≡ whole ++ rest → BrokeOff old.sink new.sink whole (first_of rest) → AfterWriteFault old new command
+  in_the_report : (program image : List ℕ) → GoPulled program image old new → AfterWriteFault old new (Some (Go program image))
+
+-- 5: nothing was stored, or the image was; it comes before the report
+pub data AfterMemory (old new : Outside) : Option (Command (List ℕ)) → Type 0 where
+  memory_before : (command : Option (Command (List ℕ))) → IsAsBefore old.shelf new.shelf → OnlySaid old new WantOfMemory → AfterMemory old new command
+  memory_stored : (program name : List ℕ) (image : Parts) → IsMade program name image old.shelf new.shelf → OnlySaid old new WantOfMemory →
+      AfterMemory old new (Some (Go program name))
+
+-- 7: the rows are those before the first bad line of the trace, which is refused by this rule
+pub data AfterBadTrace (old new : Outside) : Option (Command (List ℕ)) → Type 0 where
+  go_bad_trace : (program image : List ℕ) (rule line : ℕ) → new.source.faults ≡ old.source.faults →
+      GoStopped program image old new (BadTrace rule line) (λ width rows. IsBad width old.source.left rows rule line) →
+      AfterBadTrace old new (Some (Go program image))
+
+-- 11: the image was built, and its store failed
+pub data AfterStoreFault (old new : Outside) : Option (Command (List ℕ)) → Type 0 where
+  go_store_failed : (program name : List ℕ) (image : Parts) → IsBuilt program image old.shelf.files →
+      IsFailedStore name (text_of image) old.shelf new.shelf → OnlySaid old new StoreFault → AfterStoreFault old new (Some (Go program name))

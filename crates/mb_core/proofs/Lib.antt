@@ -1,4 +1,4 @@
 pub mod Phases
 pub mod PlainWords
 pub mod PlainTicks
-pub mod Tables
+pub mod Listings

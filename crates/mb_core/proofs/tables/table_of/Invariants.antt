@@ -1,5 +1,5 @@
 use Rattle.std.proofs.Common.{◌≡◌, length}
-use Rattle.mb_core.proofs.Tables.{IsPart}
+use Rattle.mb_core.proofs.Listings.{IsPart}
 use Rattle.mb_core.proofs.tables.table_of.Given as goal
 
 abbrev pub invariant-loop-i : goal.invariant-loop-i

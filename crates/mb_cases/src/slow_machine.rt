@@ -10,6 +10,7 @@ use pt_image::{Image, Point};
 use std::alloc::Global;
 
 // Where a step leads: on, at a place; or the slot rests; or a condition has ended, and holds or not.
+#[derive(Clone, Copy)]
 enum Led {
     On(u32),
     Rest,

@@ -1,3 +1,4 @@
 pub mod Phases
 pub mod PlainWords
 pub mod PlainTicks
+pub mod Listings

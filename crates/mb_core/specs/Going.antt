@@ -41,22 +41,6 @@ led who (On place) upper u = record (goes who place u) { upper = upper }
 led who Rest upper u = turns_on u
 led who (Conclude holds) upper u = tests_on (answered holds u)
 
--- what a word comes to in the turn of slot s, whatever upper half stands
-abbrev pub IsTurnPlan : Parts → ℕ → ℕ → State → Instr → Plan → Type 0
-IsTurnPlan image s place u i plan = (upper : Option ℤ) → plan_of image (Turn s) place upper u i ≡ plan
-
--- what a call that does a unit word comes to: on at a place, or to rest
-abbrev pub came : Class → ℕ → Result (Option ℕ) TrapKind → State → Plan
-came class s (Err kind) u = Refuse kind
-came class s (Ok None) u = Go class (turns_on u)
-came class s (Ok (Some place)) u = Go class (goes (Turn s) place u)
-
--- the slot is still ready where it goes on
-abbrev pub IsStillReady : ℕ → Result (Option ℕ) TrapKind → State → Type 0
-IsStillReady s (Err kind) u = Unit {0}
-IsStillReady s (Ok None) u = Unit {0}
-IsStillReady s (Ok (Some place)) u = IsTrue (is_ready (slot_of s u.tree))
-
 -- what the data are where a step leads
 abbrev pub cells_after : Rules Cells → To → CoreState → Cells
 cells_after rules (On place) k = k.cells

@@ -9,9 +9,9 @@ ghost use Rattle.mb_core.specs.Going.{IsStep, IsWord, IsLed, IsTarget, IsTurn, K
 
 use crate::loading::Loaded;
 use crate::parts::{To, Went};
-use mb_cells::{Store, sample};
 use mb_isa::{Class, Costs, Instr, Reg, branch_place, class, immediate, takes_upper};
 use mb_pfu::{Slot, TrapKind, Unit};
+use mb_words::{Store, sample};
 use std::marker::Model;
 
 /// The registers and the memory, the unit, and the upper half that stands.

@@ -1,6 +1,8 @@
 ghost use Rattle.std.specs.Prelude.{◌≡◌, ◌<◌, IfOk, IsTrue, length, map, option_map, slice_get};
 ghost use Rattle.mb_isa.specs.Candidates.{decoded};
+ghost use Rattle.pt_image.specs.Listed.{is_listed};
 
+use crate::tables::{is_in, table_of};
 use mb_isa::{Instr, decode};
 use pt_base::{Many, Memory};
 use pt_image::{Image, Parts, Point};
@@ -64,23 +66,26 @@ fn words(alloc: Global, code: &[u32]) -> Result<Vec<Option<Instr>>, Memory>
     Ok(words)
 }
 
-/// An image made ready to run: its code is decoded.
+/// An image made ready to run: its code is decoded, and its listed pauses and forks stand in tables by place.
 #[derive(Drop)]
 pub struct Loaded {
     image: Image,
     words: Vec<Option<Instr>>,
+    pauses: Vec<Option<u32>>,
+    forks: Vec<Option<u32>>,
 }
 
 impl Model for Loaded {
     ghost use Rattle.std.specs.Prelude.{◌≡◌, map};
     ghost use Rattle.mb_isa.specs.Candidates.{decoded};
     ghost use Rattle.pt_image.specs.declared.Parts.{Parts};
+    ghost use Rattle.mb_core.specs.Tables.{IsTable};
 
     ghost Value = { Parts };
 
     ghost view = { λ l. l.image };
 
-    ghost invariant = { λ l. l.words.items ≡ map decoded l.image.code };
+    ghost invariant = { λ l. (l.words.items ≡ map decoded l.image.code) × IsTable l.image.pauses l.pauses.items × IsTable l.image.forks l.forks.items };
 }
 
 impl Loaded {
@@ -89,8 +94,16 @@ impl Loaded {
         ensures { IfOk result (λ loaded. loaded ≡ image.now) }
     {
         let image = copied(alloc, image)?;
+        image.ranges();
         let words = words(alloc, image.code())?;
-        Ok(Loaded { image, words })
+        let pauses = table_of(alloc, image.code().len(), image.pauses())?;
+        let forks = table_of(alloc, image.code().len(), image.forks())?;
+        Ok(Loaded {
+            image,
+            words,
+            pauses,
+            forks,
+        })
     }
 
     /// The image.
@@ -105,5 +118,19 @@ impl Loaded {
         ensures { result ≡ option_map decoded (slice_get self.now.code place) }
     {
         self.words.get(place).copied()
+    }
+
+    /// Whether a pause is listed with this place, slot and stack of abort numbers.
+    pub fn is_pause(&self, place: u32, slot: u32, stack: &[u32]) -> bool
+        ensures { result ≡ is_listed self.now.pauses place slot stack.now }
+    {
+        is_in(self.image.pauses(), &self.pauses, place, slot, stack)
+    }
+
+    /// Whether a fork is listed with this place, slot and stack of abort numbers.
+    pub fn is_fork(&self, place: u32, slot: u32, stack: &[u32]) -> bool
+        ensures { result ≡ is_listed self.now.forks place slot stack.now }
+    {
+        is_in(self.image.forks(), &self.forks, place, slot, stack)
     }
 }

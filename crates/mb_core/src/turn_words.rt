@@ -2,16 +2,17 @@
 
 ghost use Rattle.std.specs.Prelude.{◌≡◌, ◌<◌, ◌+◌, ◌^◌, Some};
 ghost use Rattle.mb_isa.specs.declared.Instr.TheVariants as words;
-ghost use Rattle.mb_core.specs.Going.{came, IsStep, IsWord, IsTurn, IsStillReady, Keeps};
+ghost use Rattle.mb_words.specs.Came.{came, IsStillReady};
+ghost use Rattle.mb_core.specs.Going.{IsStep, IsWord, IsTurn, Keeps};
 
 use crate::core_state::Core;
 use crate::loading::Loaded;
 use crate::parts::{To, Went};
-use crate::unit_words::{
-    abrt, call, drop_word, end, eot, fork_word, leave_word, loop_word, next, ret,
-};
 use mb_isa::{Class, Costs, turns};
 use mb_pfu::TrapKind;
+use mb_words::{
+    abrt, call, drop_word, end, eot, fork_word, leave_word, loop_word, next, ret, stack_of,
+};
 
 impl Core {
     // A unit word has been done, or refused.
@@ -59,7 +60,7 @@ impl Core {
         match slot {
             None => Err(TrapKind::WrongPlace),
             Some(s) => {
-                let did = end(&mut self.unit, loaded, s, place);
+                let did = end(&mut self.unit, s, place);
                 self.come(loaded, costs, s, Class::End, did)
             }
         }
@@ -81,7 +82,7 @@ impl Core {
         match slot {
             None => Err(TrapKind::WrongPlace),
             Some(s) => {
-                let did = leave_word(&mut self.unit, loaded, s, place);
+                let did = leave_word(&mut self.unit, s, place);
                 self.come(loaded, costs, s, Class::Leave, did)
             }
         }
@@ -104,7 +105,7 @@ impl Core {
         match slot {
             None => Err(TrapKind::WrongPlace),
             Some(s) => {
-                let did = abrt(&mut self.unit, loaded, s, place, number);
+                let did = abrt(&mut self.unit, loaded.image(), s, place, number);
                 self.come(loaded, costs, s, Class::Abrt, did)
             }
         }
@@ -127,7 +128,7 @@ impl Core {
         match slot {
             None => Err(TrapKind::WrongPlace),
             Some(s) => {
-                let did = call(&mut self.unit, loaded, s, place, target);
+                let did = call(&mut self.unit, s, place, target);
                 self.come(loaded, costs, s, Class::Call, did)
             }
         }
@@ -149,7 +150,7 @@ impl Core {
         match slot {
             None => Err(TrapKind::WrongPlace),
             Some(s) => {
-                let did = ret(&mut self.unit, loaded, s, place);
+                let did = ret(&mut self.unit, s, place);
                 self.come(loaded, costs, s, Class::Ret, did)
             }
         }
@@ -172,7 +173,7 @@ impl Core {
         match slot {
             None => Err(TrapKind::WrongPlace),
             Some(s) => {
-                let did = next(&mut self.unit, loaded, s, place, target);
+                let did = next(&mut self.unit, s, place, target);
                 self.come(loaded, costs, s, Class::Next, did)
             }
         }
@@ -194,7 +195,7 @@ impl Core {
         match slot {
             None => Err(TrapKind::WrongPlace),
             Some(s) => {
-                let did = drop_word(&mut self.unit, loaded, s, place);
+                let did = drop_word(&mut self.unit, s, place);
                 self.come(loaded, costs, s, Class::Drop, did)
             }
         }
@@ -218,7 +219,7 @@ impl Core {
             None => Err(TrapKind::WrongPlace),
             Some(s) => {
                 let turns = turns(self.upper, low);
-                let did = loop_word(&mut self.unit, loaded, s, place, turns, self.upper, low);
+                let did = loop_word(&mut self.unit, s, place, turns, self.upper, low);
                 self.come(loaded, costs, s, Class::Loop, did)
             }
         }
@@ -240,7 +241,8 @@ impl Core {
         match slot {
             None => Err(TrapKind::WrongPlace),
             Some(s) => {
-                let did = eot(&mut self.unit, loaded, s, place);
+                let listed = loaded.is_pause(place, s, &stack_of(&self.unit, s));
+                let did = eot(&mut self.unit, loaded.image(), listed, s, place);
                 self.come(loaded, costs, s, Class::Eot, did)
             }
         }
@@ -264,7 +266,8 @@ impl Core {
         match slot {
             None => Err(TrapKind::WrongPlace),
             Some(s) => {
-                let did = fork_word(&mut self.unit, loaded, s, place, lo, count);
+                let listed = loaded.is_fork(place, s, &stack_of(&self.unit, s));
+                let did = fork_word(&mut self.unit, loaded.image(), listed, s, place, lo, count);
                 self.come(loaded, costs, s, Class::Fork, did)
             }
         }

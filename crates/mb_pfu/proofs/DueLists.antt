@@ -1,11 +1,11 @@
 -- The tests that are due are a list, of which the next test is the first and an answer takes off the first.
-use Rattle.std.proofs.Common.{◌≡◌, ℕ, ◌+◌, Bool, true, false, if◌then◌else◌, List, [], ◌∷◌, Option, Some, None, refl, sym, ap, ◌∙◌, arith, slice_set, add-one}
+use Rattle.std.proofs.Common.{◌≡◌, ℕ, ◌+◌, Bool, true, false, if◌then◌else◌, List, [], ◌∷◌, Option, Some, None, refl, sym, ap, ◌∙◌, arith, slice_set, add-one, map}
 use Rattle.mb_pfu.specs.declared.parts.Slot.{Slot}
 use Rattle.mb_pfu.specs.declared.parts.Slot.TheVariants.{Waiting}
 use Rattle.mb_pfu.specs.declared.parts.Watch.{Watch}
-use Rattle.mb_pfu.specs.Rows.{Report, due, any_due, first_due, reported_test, or_else, with_answer, watch_due, answered}
-use Rattle.mb_pfu.specs.Tree.{Tree, Group, Leaf, Waits, no_more, member, size, slot_of_activity, report, report_among, next_test, is_in, is_among, at_slot, at_member, watches_at}
-use Rattle.mb_pfu.specs.DueList.{tests_from, tests_then, group_tests_then, due_tests, first_of, rest_of}
+use Rattle.mb_pfu.specs.Rows.{Report, due, any_due, first_due, reported_test, or_else, with_answer, watch_due, answered, renewed}
+use Rattle.mb_pfu.specs.Tree.{Tree, Group, Leaf, Waits, no_more, member, size, slot_of_activity, report, report_among, next_test, is_in, is_among, at_slot, at_member, watches_at, each_slot, each_member, tests_begun}
+use Rattle.mb_pfu.specs.DueList.{tests_from, tests_then, group_tests_then, due_tests, first_of, rest_of, entries_from, entries_then, group_entries_then, all_entries}
 use Rattle.mb_pfu.proofs.Cases.{split, or-left-false, or-right-false, or_else-assoc, or_else-none}
 
 first-from : (k i : ℕ) (watches : List Watch) (rest : List (ℕ × ℕ)) → first_of (tests_from k i watches rest) ≡ (if any_due watches then Some (k, i + first_due watches) else first_of rest)
@@ -93,3 +93,22 @@ mutual
 -- where the answer drops nothing
 pub answer-rest : (fired : Bool) (t : Tree) → is_in due 0 t ≡ true → due_tests (at_slot due (watches_at (with_answer fired)) (λ u. u) 0 t) ≡ rest_of (due_tests t)
 answer-rest fired t h = answer-then fired 0 t [] h
+
+-- where the tests begin all entries are due
+begun-from : (k i : ℕ) (watches : List Watch) (rest : List (ℕ × ℕ)) → tests_from k i (map renewed watches) rest ≡ entries_from k i watches rest
+begun-from k i [] rest = refl
+begun-from k i (l ∷ watches) rest = ap (λ tests. (k, i) ∷ tests) (begun-from k (i + 1) watches rest)
+
+mutual
+  begun-then : (k : ℕ) (t : Tree) (rest : List (ℕ × ℕ)) → tests_then k (each_slot (map renewed) (λ x. x) t) rest ≡ entries_then k t rest
+  begun-then k (Leaf watches activity) rest = begun-from k 0 watches rest
+  begun-then k (Waits watches at lo group) rest =
+      begun-from k 0 watches (group_tests_then lo (each_member (map renewed) (λ x. x) group) rest) ∙ ap (entries_from k 0 watches) (begun-group lo group rest)
+
+  begun-group : (k : ℕ) (ts : Group) (rest : List (ℕ × ℕ)) → group_tests_then k (each_member (map renewed) (λ x. x) ts) rest ≡ group_entries_then k ts rest
+  begun-group k no_more rest = refl
+  begun-group k (member t ts) rest =
+      begun-then k t (group_tests_then (k + 1) (each_member (map renewed) (λ x. x) ts) rest) ∙ ap (entries_then k t) (begun-group (k + 1) ts rest)
+
+pub begun-all : (t : Tree) → due_tests (tests_begun t) ≡ all_entries t
+begun-all t = begun-then 0 t []

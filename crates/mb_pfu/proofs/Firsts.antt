@@ -3,7 +3,7 @@ use Rattle.std.proofs.Common.{◌≡◌, ℕ, ◌+◌, ◌<◌, ◌≤◌, ◌==
 use Rattle.std.proofs.lemmas.Bool.Decides.{nat_tests}
 use Rattle.mb_pfu.specs.declared.parts.Slot.{Slot}
 use Rattle.mb_pfu.specs.declared.parts.Watch.{Watch}
-use Rattle.mb_pfu.specs.declared.parts.Slot.TheVariants.{Waiting}
+use Rattle.mb_pfu.specs.declared.parts.Slot.TheVariants.{Waiting, Free}
 use Rattle.mb_pfu.specs.Rows.{Report, Selector, numbered, ready, is_ready, due, first_due, reported_test}
 use Rattle.mb_pfu.specs.Tree.{Tree, Group, Leaf, Waits, no_more, member, size, slot_of_activity, report, report_among, is_in, is_among, at_slot, at_member, tally, tally_group, one, IsSound, slot_of, watches_of, reported_state, reported_watches, reported_number, next_job, next_test}
 use Rattle.mb_pfu.proofs.Trees.{is_in-report, is_among-report}
@@ -40,7 +40,7 @@ one-none true h = absurd (omega arith)
 one-none false h = refl
 
 mutual
-  uncounted : (q k : ℕ) (t : Tree) → tally q k t ≡ 0 → report (numbered q) k t ≡ None
+  pub uncounted : (q k : ℕ) (t : Tree) → tally q k t ≡ 0 → report (numbered q) k t ≡ None
   uncounted q k (Leaf watches activity) h = let e : (k == q) ≡ false = one-none (k == q) h in rw e refl
   uncounted q k (Waits watches at lo group) h =
       let e : (k == q) ≡ false = one-none (k == q) (omega arith) in
@@ -159,3 +159,7 @@ test-by t sound (Some x) e =
 -- the next test's entry is there
 pub test-there : (t : Tree) (o : Option (ℕ × ℕ)) → IsSound t → o ≡ next_test t → IfSome o (λ p. p.1 < length (watches_of p.0 t))
 test-there t o sound e = let P : Option (ℕ × ℕ) → Type 0 = λ a. IfSome a (λ p. p.1 < length (watches_of p.0 t)) in subst P (sym e) (test-by t sound (report due 0 t) refl)
+
+-- a slot that isn't counted is free
+pub uncounted-free : (s : ℕ) (t : Tree) → tally s 0 t ≡ 0 → slot_of s t ≡ Free
+uncounted-free s t h = ap reported_state (uncounted s 0 t h)

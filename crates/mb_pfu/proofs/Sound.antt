@@ -6,8 +6,9 @@ use Rattle.std.proofs.lemmas.Map.Steps.{length-le_from_distinct_below}
 use Rattle.std.proofs.lemmas.Bool.Decides.{nat_tests}
 use Rattle.mb_pfu.specs.declared.parts.Watch.{Watch}
 use Rattle.mb_pfu.specs.declared.parts.Slot.TheVariants.{Waiting}
-use Rattle.mb_pfu.specs.Rows.{SlotRow, is_free, count_in, started, Selector, numbered, Report, relief, or_else, due, is_cut, first_due, watch_due, with_answer}
-use Rattle.mb_pfu.specs.Tree.{Tree, Group, Leaf, Waits, no_more, member, Activity, Running, Pausing, Finished, size, slot_of_activity, spelled, spelled_group, is_in, is_among, at_slot, at_member, tally, tally_group, one, begun, settle, pause_at, finish_at, fork_at, relieved_tree, any_ready, all_ended, report, report_among, is_busy, slot_of, IsSound, paused, finished, watches_at, answer_at, test_answered, each_slot, each_member}
+use Rattle.mb_pfu.specs.Rows.{SlotRow, is_free, count_in, started, Selector, numbered, Report, relief, or_else, due, is_cut, first_due, watch_due, with_answer, with_last, without_last, renewed, as_they_are}
+use Rattle.mb_pfu.specs.Tree.{Tree, Group, Leaf, Waits, no_more, member, Activity, Running, Pausing, Finished, size, slot_of_activity, spelled, spelled_group, is_in, is_among, at_slot, at_member, tally, tally_group, one, begun, settle, pause_at, finish_at, fork_at, relieved_tree, any_ready, all_ended, report, report_among, is_busy, slot_of, IsSound, paused, finished, watches_at, answer_at, test_answered, each_slot, each_member, entered, left, forked, tests_begun, all_woken, wakes}
+use Rattle.mb_pfu.specs.Unit.{IsBelow}
 use Rattle.mb_pfu.proofs.Cases.{split, or-left-false, or-right-false}
 use Rattle.mb_pfu.proofs.Frees.{taken-there}
 
@@ -238,3 +239,42 @@ sound-each h d t s = record {
   once = λ q. omega (arith, tally-each h d q 0 t, s.once q);
   below = λ q e. omega (arith, tally-each h d q 0 t, s.below q e);
 }
+
+-- the moves keep all slots below a number
+begun-entry : (n q place : ℕ) → 1 ≤ n → n ≤ q → tally q 0 (Leaf [] (Running place)) ≡ 0
+begun-entry n q place h e = apart 0 q (omega arith)
+
+pub below-begin : (n place : ℕ) → 1 ≤ n → IsBelow n (Leaf [] (Running place))
+below-begin n place h = λ q e. begun-entry n q place h e
+
+below-at : (n : ℕ) (p : Selector) (f g : Tree → Tree) → ((q : ℕ) → Adds q 0 f) → ((q : ℕ) → Adds q 0 g) → (t : Tree) → IsBelow n t → IsBelow n (at_slot p f g 0 t)
+below-at n p f g adds adds' t h = λ q e. omega (arith, tally-at q 0 p f g (adds q) (adds' q) 0 t, h q e)
+
+pub below-pause : (n s at : ℕ) (t : Tree) → IsBelow n t → IsBelow n (paused s at t)
+below-pause n s at t h = below-at n (numbered s) (pause_at at) settle (λ q. pause-adds q at) settle-adds t h
+
+pub below-finish : (n s : ℕ) (t : Tree) → IsBelow n t → IsBelow n (finished s t)
+below-finish n s t h = below-at n (numbered s) finish_at settle finish-adds settle-adds t h
+
+pub below-enter : (n s : ℕ) (l : Watch) (t : Tree) → IsBelow n t → IsBelow n (entered s l t)
+below-enter n s l t h = below-at n (numbered s) (watches_at (with_last l)) (λ u. u) (watches-adds (with_last l)) stay-adds t h
+
+pub below-leave : (n s : ℕ) (t : Tree) → IsBelow n t → IsBelow n (left s t)
+below-leave n s t h = below-at n (numbered s) (watches_at without_last) (λ u. u) (watches-adds without_last) stay-adds t h
+
+pub below-answer : (n : ℕ) (fired : Bool) (t : Tree) → IsBelow n t → IsBelow n (test_answered fired t)
+below-answer n fired t h = below-at n due (answer_at fired) (λ u. u) (answer-adds fired) stay-adds t h
+
+pub below-tests : (n : ℕ) (t : Tree) → IsBelow n t → IsBelow n (tests_begun t)
+below-tests n t h = λ q e. omega (arith, tally-each (map renewed) (λ x. x) q 0 t, h q e)
+
+pub below-wake : (n : ℕ) (t : Tree) → IsBelow n t → IsBelow n (all_woken t)
+below-wake n t h = λ q e. omega (arith, tally-each as_they_are wakes q 0 t, h q e)
+
+pub below-fork : (n s at lo : ℕ) (starts : List ℕ) (t : Tree) → IsBelow n t → lo + length starts ≤ n → IsBelow n (forked s at lo starts t)
+below-fork n s at lo starts t h within = λ q e.
+    omega (arith, tally-at q (tally_group q lo (begun starts)) (numbered s) (fork_at at lo starts) (λ u. u) (fork-adds q at lo starts) (stay-adds q) 0 t, h q e, begun-past q lo starts (omega arith))
+
+pub below-wait : (n s at lo : ℕ) (starts : List ℕ) (t u : Tree) (b : Bool) → u ≡ (if b then forked s at lo starts t else t) → IsBelow n t → lo + length starts ≤ n → IsBelow n u
+below-wait n s at lo starts t u true e h within = rw e (below-fork n s at lo starts t h within)
+below-wait n s at lo starts t u false e h within = rw e h

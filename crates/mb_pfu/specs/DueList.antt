@@ -39,3 +39,21 @@ abbrev mutual
   pub group_first_tests : ℕ → Group → List (ℕ × ℕ)
   group_first_tests k no_more = []
   group_first_tests k (member t ts) = if is_in due k t then first_tests k t else group_first_tests (k + 1) ts
+
+-- all entries of slot k from entry i on, before more
+abbrev pub entries_from : ℕ → ℕ → List Watch → List (ℕ × ℕ) → List (ℕ × ℕ)
+entries_from k i [] rest = rest
+entries_from k i (l ∷ watches) rest = (k, i) ∷ entries_from k (i + 1) watches rest
+
+abbrev mutual
+  pub entries_then : ℕ → Tree → List (ℕ × ℕ) → List (ℕ × ℕ)
+  entries_then k (Leaf watches activity) rest = entries_from k 0 watches rest
+  entries_then k (Waits watches at lo group) rest = entries_from k 0 watches (group_entries_then lo group rest)
+
+  pub group_entries_then : ℕ → Group → List (ℕ × ℕ) → List (ℕ × ℕ)
+  group_entries_then k no_more rest = rest
+  group_entries_then k (member t ts) rest = entries_then k t (group_entries_then (k + 1) ts rest)
+
+-- all entries, each a slot and a place, in depth-first order and from the outermost on
+abbrev pub all_entries : Tree → List (ℕ × ℕ)
+all_entries t = entries_then 0 t []

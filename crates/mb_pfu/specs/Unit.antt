@@ -1,9 +1,9 @@
 -- What contracts see of a unit: "The unit" in docs/machine.md.
-use Rattle.std.specs.Prelude.{◌+◌, ◌==◌, nat_lt, nat_le, length, ℕ, Bool, false, not, ◌||◌, List, slice_index_or}
+use Rattle.std.specs.Prelude.{◌≡◌, ◌≤◌, ◌+◌, ◌==◌, nat_lt, nat_le, length, ℕ, Bool, false, not, ◌||◌, List, slice_index_or}
 use Rattle.mb_pfu.specs.declared.parts.Entry.{Entry}
 use Rattle.mb_pfu.specs.declared.parts.Watch.{Watch}
 use Rattle.mb_pfu.specs.Rows.{no_watch}
-use Rattle.mb_pfu.specs.Tree.{Tree}
+use Rattle.mb_pfu.specs.Tree.{Tree, tally}
 
 -- the number of slots, the tree of those that aren't free, the links of calls and the loop counters
 pub record State : Type 0 where
@@ -11,6 +11,15 @@ pub record State : Type 0 where
   pub tree : Tree
   pub links : List ℕ
   pub counters : List ℕ
+
+-- all slots of the tree are below a number
+abbrev pub IsBelow : ℕ → Tree → Type 0
+IsBelow slots t = (q : ℕ) → slots ≤ q → tally q 0 t ≡ 0
+
+-- there are at most 64 slots, and those of the tree are among them
+pub record IsUnit (u : State) : Type 0 where
+  pub few : u.slots ≤ 64
+  pub below : IsBelow u.slots u.tree
 
 -- a link or a counter is there: the slot that runs is inside a call or a loop
 abbrev pub is_nested : State → Bool

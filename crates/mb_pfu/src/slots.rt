@@ -3,7 +3,7 @@
 ghost use Rattle.std.specs.Prelude.{◌≡◌, ℕ, ◌-◌, ◌^◌, ◌<◌, ◌+◌, ◌≤◌, [], length, is_some, IfSome, IsTrue, not, if◌then◌else◌};
 ghost use Rattle.mb_pfu.specs.Rows.{is_ready, relief, handler_of};
 ghost use Rattle.mb_pfu.specs.Unit.{entry_of};
-ghost use Rattle.mb_pfu.specs.Tree.{Leaf, Running, next_job, slot_of, watches_of, paused, finished, forked, is_busy, entered, left, tests_begun, next_test, test_answered, all_woken};
+ghost use Rattle.mb_pfu.specs.Tree.{Leaf, Running, next_job, slot_of, watches_of, paused, finished, forked, is_busy, entered, left, tests_begun, next_test, test_answered, all_woken, IsSound};
 
 use crate::parts::{Entry, Slot, Watch};
 use crate::row::Row;
@@ -39,6 +39,13 @@ impl Slots {
         let mut rows = ArrayVec::new();
         rows.push(Row::ready(0, 0, entry));
         Slots { rows }
+    }
+
+    /// That no slot stands twice; does nothing.
+    pub(crate) fn sound(&self)
+        ensures { IsSound self.now }
+    {
+        let _rows = &self.rows;
     }
 
     /// The first ready slot in depth-first order.

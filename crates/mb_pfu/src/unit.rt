@@ -1,8 +1,9 @@
 //! The unit: the calls by which a machine asks for a move of its tables.
 
-ghost use Rattle.std.specs.Prelude.{◌==◌, is_some, ◌≡◌, ℕ, ◌+◌, ◌-◌, ◌^◌, ◌<◌, ◌≤◌, ◌↔◌, [], ◌∷◌, ◌++◌, List, length, OnErr, OnOk, IfOk, IfErr, IsTrue, IfSome, IfNone};
+ghost use Rattle.std.specs.Prelude.{not, if◌then◌else◌, ◌==◌, is_some, ◌≡◌, ℕ, ◌+◌, ◌-◌, ◌^◌, ◌<◌, ◌≤◌, ◌↔◌, [], ◌∷◌, ◌++◌, List, length, OnErr, OnOk, IfOk, IfErr, IsTrue, IfSome, IfNone};
 ghost use Rattle.mb_pfu.specs.Rows.{is_ready, relief, handler_of};
-ghost use Rattle.mb_pfu.specs.Tree.{Leaf, Running, next_job, slot_of, watches_of, next_test, tests_begun, test_answered, all_woken};
+ghost use Rattle.mb_pfu.specs.Tree.{Leaf, Running, next_job, slot_of, watches_of, next_test, tests_begun, test_answered, all_woken, is_busy, forked, IsSound};
+ghost use Rattle.mb_pfu.specs.declared.parts.Slot.TheVariants.{Free};
 ghost use Rattle.mb_pfu.specs.Unit.{is_nested, State, entry_of, fresh};
 ghost use Rattle.mb_pfu.specs.Calls as call;
 ghost use Rattle.mb_pfu.specs.Calls.{called, valued};
@@ -24,8 +25,7 @@ pub struct Unit {
 }
 
 impl Model for Unit {
-    ghost use Rattle.std.specs.Prelude.{◌≤◌};
-    ghost use Rattle.mb_pfu.specs.Unit.{State};
+    ghost use Rattle.mb_pfu.specs.Unit.{State, IsUnit};
     ghost use Rattle.mb_pfu.specs.Stored.{state_code};
 
     ghost Value = { State };
@@ -34,7 +34,7 @@ impl Model for Unit {
 
     ghost view = { λ u. record { slots = u.slots; tree = u.tree; links = u.links.items; counters = u.counters.items } };
 
-    ghost invariant = { λ u. u.slots ≤ 64 };
+    ghost invariant = { λ u. IsUnit (record { slots = u.slots; tree = u.tree; links = u.links.items; counters = u.counters.items }) };
 }
 
 impl Unit {
@@ -51,6 +51,15 @@ impl Unit {
             links: ArrayVec::new(),
             counters: ArrayVec::new(),
         }
+    }
+
+    /// That its tree is sound: no slot stands twice, and all are below the number of slots, so the others are free.
+    /// Does nothing.
+    pub fn sound(&self)
+        ensures tree { IsSound self.now.tree }
+        ensures others { (s : ℕ) → self.now.slots ≤ s → slot_of s self.now.tree ≡ Free }
+    {
+        self.tree.sound();
     }
 
     /// Whether a link or a counter is there.
@@ -127,6 +136,19 @@ impl Unit {
             return Err(TrapKind::SlotBusy);
         }
         Ok(())
+    }
+
+    /// A ready slot waits, at the code place `at`, for the slots from `lo` on, one for each of `starts`, wherever
+    /// `lo` stands and whatever link or counter is there: so a tree is built. False, and nothing changes, where a
+    /// child isn't free.
+    pub fn wait(&mut self, s: u32, at: u32, lo: u32, starts: &[u32]) -> bool
+        requires ready { IsTrue (is_ready (slot_of s self.old.tree)) }
+        requires low { at < 2 ^ 32 - 1 }
+        requires few { lo + length starts.now ≤ self.old.slots }
+        ensures free { result ≡ not (is_busy lo starts.now self.old.tree) }
+        ensures tree { self.new ≡ record self.old { tree = if result then forked s at lo starts.now self.old.tree else self.old.tree } }
+    {
+        self.tree.fork(s, at, lo, starts)
     }
 
     /// How many aborts a slot is inside: at most 8.

@@ -1,5 +1,0 @@
-use Rattle.mb_pfu.proofs.DueCuts.{cut-tests, kept-tests}
-use Rattle.mb_pfu_laws.proofs.answers_take_off.Goals as goal
-
-pub returns : goal.returns
-returns c = record { cuts = cut-tests; keeps = kept-tests }

@@ -12,3 +12,4 @@ pub mod Units
 pub mod Crossings
 pub mod MaxPlus
 pub mod Greatest
+pub mod Covered

@@ -1,5 +1,5 @@
 -- Certificates whose numbers are the greatest that is asked of them, each from those to which it leads: docs/bounds.md, "Greatest numbers".
-use Rattle.std.specs.Prelude.{◌≡◌, ℕ, zero, suc, ◌+◌, ◌-◌, ◌≤◌, ◌==◌, min, IsTrue, if◌then◌else◌, List, [], ◌∷◌, length, Option, Some, None}
+use Rattle.std.specs.Prelude.{◌≡◌, ℕ, zero, suc, ◌+◌, ◌-◌, ◌≤◌, ◌==◌, ◌++◌, min, IsTrue, if◌then◌else◌, List, [], ◌∷◌, length, Option, Some, None}
 use Rattle.mb_isa.specs.declared.Instr.{Instr}
 use Rattle.mb_isa.specs.declared.Instr.TheVariants as instr
 use Rattle.mb_isa.specs.declared.Class.TheVariants as class
@@ -15,7 +15,8 @@ use Rattle.tk_bound.specs.declared.word.Word.TheVariants.{Jump, Branch, Cend}
 use Rattle.tk_bound.specs.Sums.{plus, greater, all_ends, most_paused, resumed_ends, resumed_paused, greatest}
 use Rattle.tk_bound.specs.Words.{instr_at}
 use Rattle.tk_bound.specs.Kinds.{line_at, is_cond, upper_at, abort_at}
-use Rattle.tk_bound.specs.Acceptance.{number, value, resumed, begins, more}
+use Rattle.tk_cert.specs.Demands.{AllHold}
+use Rattle.tk_bound.specs.Acceptance.{number, value, resumed, begins, more, resuming, bounded}
 use Rattle.tk_bound.specs.Bounded.{IsAcceptedFor}
 use Rattle.tk_bound.specs.Walks.{most_cycles, IsWorst}
 use Rattle.tk_paths.specs.Reached.{IsOpen}
@@ -54,11 +55,22 @@ module _ (image : Parts) (cert : CertParts) (costs : List ℕ) where
   -- after a fork: its children come to rest, or all of them end
   abbrev pub grouping : ℕ → ℕ → ℕ → List ℕ → ℕ → Side → Option ℕ
   grouping place lo count stack k side =
-      greater (plus (most_paused (begins image cert costs) lo count) (resting stack k side)) (plus (all_ends (begins image cert costs) lo count) (num side k (place + 1)))
+      greater (plus (most_paused (begins image cert costs) lo count) (resting stack k side))
+      (plus (all_ends (begins image cert costs) lo count) (num side k (place + 1)))
 
   abbrev pub ended : Side → Option ℕ
   ended ToPause = None
   ended ToEnd = Some (cost_of costs class.End)
+
+  -- the two ways of a branch
+  abbrev pub branched : ℕ → ℕ → Side → ℕ → Option ℕ
+  branched place goal side k =
+      greater (more (extra image costs place + cost_of costs class.Untaken) (num side k (behind image place)))
+      (more (extra image costs place + cost_of costs class.Taken) (num side k goal))
+
+  -- outside the innermost abort a level is at most the number of the other aborts
+  abbrev pub left : ℕ → List ℕ → Side → ℕ → Option ℕ
+  left place stack side k = more (cost_of costs class.Leave) (num side (min k (length stack - 1)) (place + 1))
 
   -- the numbers of a place are these
   abbrev pub Are : ℕ → List ℕ → (Side → ℕ → Option ℕ) → Type 0
@@ -74,11 +86,10 @@ module _ (image : Parts) (cert : CertParts) (costs : List ℕ) where
         Are place stack (λ side k. more (extra image costs place + cost_of costs class.Jump) (num side k goal)) → IsGreatestAt place s stack
     branching : (goal : ℕ) → IsUnit image place (Branch (Some goal)) → IsOpen image cert costs goal s stack →
         IsOpen image cert costs (behind image place) s stack →
-        Are place stack (λ side k. greater (more (extra image costs place + cost_of costs class.Untaken) (num side k (behind image place))) (more (extra image costs place + cost_of costs class.Taken) (num side k goal))) →
-        IsGreatestAt place s stack
+        Are place stack (branched place goal) → IsGreatestAt place s stack
     entering : (j : ℕ) → instr_at image place ≡ Some (instr.Abrt j) →
         Are place stack (λ side k. more (cost_of costs class.Abrt) (num side k (place + 1))) → IsGreatestAt place s stack
-    leaving : instr_at image place ≡ Some instr.Leave → Are place stack (λ side k. more (cost_of costs class.Leave) (num side (min k (length stack - 1)) (place + 1))) → IsGreatestAt place s stack
+    leaving : instr_at image place ≡ Some instr.Leave → Are place stack (left place stack) → IsGreatestAt place s stack
     pausing : instr_at image place ≡ Some instr.Eot → Are place stack (λ side k. more (cost_of costs class.Eot) (resting stack k side)) →
         IsGreatestAt place s stack
     forking : (lo count : ℕ) → instr_at image place ≡ Some (instr.Fork lo count) →
@@ -97,7 +108,8 @@ module _ (image : Parts) (cert : CertParts) (costs : List ℕ) where
   abbrev pub tested : Side → ℕ → List ℕ → Option ℕ → Option ℕ
   tested side i [] rest = rest
   tested side i (j ∷ stack) rest =
-      more (value image cert costs ((abort_at image j).cond)) (greater (if (abort_at image j).weak then None else num side i ((abort_at image j).handler)) (tested side (i + 1) stack rest))
+      more (value image cert costs ((abort_at image j).cond))
+      (greater (if (abort_at image j).weak then None else num side i ((abort_at image j).handler)) (tested side (i + 1) stack rest))
 
   abbrev pub paused : Side → Point → Option ℕ
   paused side p = tested side 0 p.stack (num side (length p.stack) (p.at + 1))
@@ -111,7 +123,8 @@ module _ (image : Parts) (cert : CertParts) (costs : List ℕ) where
 
   abbrev pub joined : Side → Point → ℕ → ℕ → Option ℕ
   joined side p lo count =
-      greater (plus (pausing_sum lo count) (resting p.stack (length p.stack) side)) (plus (ending_sum lo count) (num side (length p.stack) (p.at + 1)))
+      greater (plus (pausing_sum lo count) (resting p.stack (length p.stack) side))
+      (plus (ending_sum lo count) (num side (length p.stack) (p.at + 1)))
 
   abbrev pub waited_by : Option Instr → Side → Point → Option ℕ
   waited_by (Some (instr.Fork lo count)) side p =
@@ -121,16 +134,26 @@ module _ (image : Parts) (cert : CertParts) (costs : List ℕ) where
   abbrev pub waited : Side → Point → Option ℕ
   waited side p = waited_by (instr_at image p.at) side p
 
+  -- the numbers with which a tick may begin
+  abbrev pub beginnings : List (Option ℕ)
+  beginnings =
+      begins image cert costs ToPause 0 ∷ begins image cert costs ToEnd 0 ∷ resumed image cert costs ToPause 0 ∷ resumed image cert costs ToEnd 0 ∷ []
+
   pub record IsGreatest : Type 0 where
     pub place : (place s : ℕ) (stack : List ℕ) → IsOpen image cert costs place s stack → IsGreatestAt place s stack
     pub condition : (place : ℕ) → IsTrue (is_cond (line_at cert.lines place)) → upper_at image cert.lines place ≡ None →
         IsStraightCondition place
-    pub slot : (s : ℕ) (side : Side) → resumed image cert costs side s ≡ greater (best (paused side) s image.pauses) (best (waited side) s image.forks)
-    pub bound : cert.bound ≡ base_of image costs
-        + greatest (begins image cert costs ToPause 0 ∷ begins image cert costs ToEnd 0 ∷ resumed image cert costs ToPause 0 ∷ resumed image cert costs ToEnd 0 ∷ [])
+    pub slot : (s : ℕ) (side : Side) →
+        resumed image cert costs side s ≡ greater (best (paused side) s image.pauses) (best (waited side) s image.forks)
+    pub bound : cert.bound ≡ base_of image costs + greatest beginnings
 
 -- Where a certificate is accepted and its numbers are the greatest, its bound is the worst of the image.
 abbrev pub GreatestIsWorst : Type 0
 GreatestIsWorst =
     (image : Parts) (cert : CertParts) (costs : List ℕ) → IsAcceptedFor image cert costs → IsGreatest image cert costs →
     cert.bound ≤ most_cycles → IsWorst image costs cert.bound
+
+-- It holds the conditions on what is resumed and on the bound.
+abbrev pub BeginningsAreCovered : Type 0
+BeginningsAreCovered =
+    (image : Parts) (cert : CertParts) (costs : List ℕ) → IsGreatest image cert costs → AllHold (resuming image cert costs ++ bounded image cert costs)

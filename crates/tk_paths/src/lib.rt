@@ -6,7 +6,7 @@
 #![tactic(auto)]
 
 ghost use Rattle.tk_paths.specs.Tight.{TightIsWorst};
-ghost use Rattle.tk_paths.specs.Greatest.{GreatestIsWorst};
+ghost use Rattle.tk_paths.specs.Greatest.{BeginningsAreCovered, GreatestIsWorst};
 ghost use Rattle.tk_paths.specs.Regions.{RegionsAreCrossed, RegionsArePassages};
 
 /// The bound of a certificate that is accepted and tight is the worst of its image: some free tick costs just as much, and
@@ -30,4 +30,9 @@ pub fn a_region_is_a_passage()
 /// to which it leads, is the worst of its image.
 pub fn a_greatest_bound_is_worst()
     ensures { GreatestIsWorst }
+{}
+
+/// Such numbers hold the conditions of acceptance on what is resumed and on the bound.
+pub fn greatest_numbers_cover_beginnings()
+    ensures { BeginningsAreCovered }
 {}

@@ -10,3 +10,6 @@ pub mod Resumes
 pub mod Attained
 pub mod Units
 pub mod Crossings
+pub mod MaxPlus
+pub mod Greatest
+pub mod Covered

@@ -270,7 +270,8 @@ module _ (image : Parts) (cert : CertParts) (costs : List ℕ) where
           let at : (entry_of (watches_of x.0 u.tree) (first_due x.2)).cond ≡ c = ap (λ (v' : List Watch). (entry_of v' (first_due x.2)).cond) w ∙ sym m.2 in
           let same : tests_on u ≡ goes Condition c u = ap (λ o. tests_from u (reported_test o)) m.1 ∙ ap (λ p. goes Condition p u) at in
           let r = answers-way 0 u.tree side n c testing e v in
-          let q = tight.asked c (at-cond image cert costs c (next-cond-line E D acc 0 u.tree c testing e)) in
+          let line = next-cond-line E D acc 0 u.tree c testing e in
+          let q = tight.asked c (at-cond image cert costs c line) line.1 in
           let has : is_in due 0 u.tree ≡ true = due-next 0 u.tree ∙ ap is_some e in
           let alike' : tree.test_answered r.0 u.tree ≡ test_answered r.0 u.tree = alike r.0 0 u.tree has in
           let L : Control → Type 0 = λ k. Leads image costs k (q.choices ++ r.0 ∷ []) (D.value c) (tests_on (control.answered r.0 u)) in

@@ -13,12 +13,13 @@ use Rattle.mb_isa.specs.Costs.{cost_of}
 use Rattle.mb_pfu.specs.declared.TrapKind.TheVariants.{WrongPlace, TableFull}
 use Rattle.mb_pfu.specs.Calls as calls
 use Rattle.mb_pfu.specs.Calls.{last_from, last_of}
+use Rattle.mb_pfu.specs.Tree.{next_test}
 use Rattle.mb_pfu.specs.Unit.{State}
 use Rattle.pt_image.specs.declared.Parts.{Parts}
-use Rattle.mb_step.specs.Control.{Control, Who, Turn, Condition, phase_at, goes}
+use Rattle.mb_step.specs.Control.{Control, Who, Turn, Condition, phase_at, goes, tests_on, answered}
 use Rattle.mb_step.specs.Words.{Plan, Refuse, Go, Work, plan_of, plan_word, plan_decoded, plan, is_barred, on, on_to, jump, goes_to}
 use Rattle.mb_step.specs.Words as plans
-use Rattle.mb_step.specs.Step.{Moves, stepped, step}
+use Rattle.mb_step.specs.Step.{Moves, samples_from, stepped, step}
 use Rattle.mb_step.specs.Free.{free}
 use Rattle.tk_bound.specs.declared.word.Word.{Word}
 use Rattle.tk_bound.specs.declared.word.Word.TheVariants.{Does, Imm, Jump, Branch, Call, Ret, Loop, Next, Drop, Cend}
@@ -146,6 +147,17 @@ module _ (image : Parts) (costs : List ℕ) where
 
   pub untaken-step : (who : Who) (place : ℕ) (upper : Option ℤ) (u : State) (to : ℕ) → read image place upper ≡ Some (Branch (Some to)) → StepsTo who place upper u (false ∷ []) (cost_of costs class.Untaken) (goes who (place + 1) u)
   untaken-step who place upper u to h rest = ap (stepped free costs (false ∷ rest)) (word-fits who place upper u (Branch (Some to)) h).1
+
+  -- a condition ends with either answer; where no test is due, sampling leaves the choices as they are
+  samples-same : (o : Option (ℕ × ℕ)) (d : List Bool) → samples_from free o d ≡ d
+  samples-same None d = refl
+  samples-same (Some t) d = refl
+
+  pub cend-step : (place : ℕ) (u : State) (holds : Bool) → IsWord image place Cend → StepsTo Condition place None u (holds ∷ []) (cost_of costs class.Cend) (tests_on (answered holds u))
+  cend-step place u holds h rest =
+      let f = word-fits Condition place None u Cend h in
+      ap (stepped free costs (holds ∷ rest)) f.1
+      ∙ ap (Moves (cost_of costs class.Cend) (tests_on (answered holds u))) (samples-same (next_test (answered holds u).tree) rest)
 
   pub call-step : (s place : ℕ) (u : State) (to : ℕ) → IsWord image place (Call to) → length u.links < 16 → StepsTo (Turn s) place None u [] (cost_of costs class.Call) (goes (Turn s) to (record u { links = u.links ++ (place + 1) ∷ [] }))
   call-step s place u to h few rest =

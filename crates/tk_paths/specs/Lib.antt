@@ -2,3 +2,4 @@ pub mod Passages
 pub mod Reached
 pub mod Tight
 pub mod Regions
+pub mod Greatest

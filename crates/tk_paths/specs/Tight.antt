@@ -1,6 +1,6 @@
 -- Tight certificates: docs/bounds.md, "Tight certificates". The conditions of acceptance say that each number reaches what is asked
 -- of it; here each number that is there is one of the things that are asked of it.
-use Rattle.std.specs.Prelude.{◌≡◌, ℕ, ◌+◌, ◌-◌, ◌≤◌, min, IsTrue, List, length, Some}
+use Rattle.std.specs.Prelude.{◌≡◌, ℕ, ◌+◌, ◌-◌, ◌≤◌, min, IsTrue, List, length, Some, None}
 use Rattle.mb_isa.specs.declared.Instr.TheVariants as instr
 use Rattle.mb_isa.specs.declared.Class.TheVariants as class
 use Rattle.mb_isa.specs.Costs.{cost_of}
@@ -11,7 +11,7 @@ use Rattle.tk_cert.specs.declared.cert.CertParts.{CertParts}
 use Rattle.tk_bound.specs.declared.view.Side.{Side}
 use Rattle.tk_bound.specs.declared.view.Side.TheVariants.{ToEnd}
 use Rattle.tk_bound.specs.Words.{instr_at}
-use Rattle.tk_bound.specs.Kinds.{line_at, is_cond}
+use Rattle.tk_bound.specs.Kinds.{line_at, is_cond, upper_at}
 use Rattle.tk_bound.specs.Acceptance.{value, resumed, begins}
 use Rattle.tk_bound.specs.Bounded.{IsAcceptedFor}
 use Rattle.tk_bound.specs.Walks.{most_cycles, IsWorst}
@@ -60,7 +60,8 @@ module _ (image : Parts) (cert : CertParts) (costs : List ℕ) where
   pub record IsTight : Type 0 where
     pub edge : (place s : ℕ) (stack : List ℕ) (k : ℕ) (side : Side) (n : ℕ) → IsOpen image cert costs place s stack → k ≤ length stack →
         Has image cert costs side k place n → Edge s stack k place side n
-    pub asked : (place : ℕ) → IsTrue (is_cond (line_at cert.lines place)) → Asked image costs place (value image cert costs place)
+    pub asked : (place : ℕ) → IsTrue (is_cond (line_at cert.lines place)) → upper_at image cert.lines place ≡ None →
+        Asked image costs place (value image cert costs place)
     pub resumption : (s : ℕ) (side : Side) (n : ℕ) → resumed image cert costs side s ≡ Some n → Resumption s side n
     pub top : Top
 

@@ -1,11 +1,12 @@
 //! The paths behind the numbers of a certificate: where each number is one that acceptance asks of it, exactly, there is a
 //! free tick that costs just the bound.
 //!
-//! Read `Passages`, `Reached`, `Tight` and `Regions` in `specs/` in this order; `docs/bounds.md`, "Tight certificates" and
-//! "Regions", says the same in words. The functions below do nothing: their contracts are the theorems.
+//! Read `Passages`, `Reached`, `Tight`, `Regions` and `Greatest` in `specs/` in this order; `docs/bounds.md`, "Tight certificates" to
+//! "Greatest numbers", says the same in words. The functions below do nothing: their contracts are the theorems.
 #![tactic(auto)]
 
 ghost use Rattle.tk_paths.specs.Tight.{TightIsWorst};
+ghost use Rattle.tk_paths.specs.Greatest.{BeginningsAreCovered, GreatestIsWorst};
 ghost use Rattle.tk_paths.specs.Regions.{RegionsAreCrossed, RegionsArePassages};
 
 /// The bound of a certificate that is accepted and tight is the worst of its image: some free tick costs just as much, and
@@ -23,4 +24,15 @@ pub fn a_region_is_crossed()
 /// So it is a passage, which tight certificates may be made of.
 pub fn a_region_is_a_passage()
     ensures { RegionsArePassages }
+{}
+
+/// The bound of a certificate that is accepted and whose numbers are the greatest that is asked of them, each told from those
+/// to which it leads, is the worst of its image.
+pub fn a_greatest_bound_is_worst()
+    ensures { GreatestIsWorst }
+{}
+
+/// Such numbers hold the conditions of acceptance on what is resumed and on the bound.
+pub fn greatest_numbers_cover_beginnings()
+    ensures { BeginningsAreCovered }
 {}

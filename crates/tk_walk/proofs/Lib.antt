@@ -1,0 +1,11 @@
+pub mod Spending
+pub mod Listings
+pub mod Standings
+pub mod Fronts
+pub mod Targets
+pub mod Lines
+pub mod Resting
+pub mod Beginning
+pub mod Loops
+pub mod Entering
+pub mod Spent

@@ -1,0 +1,8 @@
+use Rattle.std.proofs.Common.{ap, ◌∙◌, drop}
+use Rattle.mb_step.specs.Words.{Plan}
+use Rattle.mb_step.specs.Step.{stepped}
+use Rattle.mb_step.specs.Free.{free}
+use Rattle.tk_walk.proofs.free_core.FreeCore.leave_in.Goals as goal
+
+pub returns-in-Some-clause-step : goal.returns-in-Some-clause-step
+returns-in-Some-clause-step c = rw (c.in-Some.is, ← c.self.view_is) (ap (λ (p : Plan). stepped free c.args.costs.now (drop c.self.inside.used c.args.choices.now) p) (c.leave_word-did.ensures.plan c.args.image.now) ∙ c.come.ensures.step)

@@ -1,0 +1,5 @@
+pub mod Walks
+pub mod Listing
+pub mod Going
+pub mod Phases
+pub mod Building

@@ -8,7 +8,7 @@ use Rattle.pc_meaning.specs.Runs.{meaning_of}
 use Rattle.pretc_run.specs.declared.endings.Ending.{Ending}
 use Rattle.pretc_run.specs.declared.endings.Ending.TheVariants as end
 use Rattle.pretc_run.specs.Endings.{number_of, line_of, write_fault}
-use Rattle.pretc_run.specs.Writing.{Wrote, BrokeOff, IsAnswered}
+use Rattle.pretc_run.specs.Writing.{Wrote, BrokeOff, IsAnswered, Answers}
 use Rattle.pretc_run.specs.Running.{HasFailed}
 
 -- the lines of ticks from number k on, with their outputs alone
@@ -69,3 +69,10 @@ pub data MeanComes (program : Program) (before after : SourceTold) (sink now : S
   mean_ends : (rows : List (List ℤ)) (last : List ℕ) (e : Ending) → MeanEnds program rows before after last e →
       IsAnswered (meant_lines program rows ++ last ∷ []) (number_of e) sink now answer → MeanComes program before after sink now answer
   mean_breaks : answer ≡ write_fault → MeanBreaks program before after sink now → MeanComes program before after sink now answer
+
+-- what a call that reports the meaning of an accepted program comes to: no memory was found before the first tick, and the source
+-- was left as it was, or the meaning began
+pub data MeanCallComes (program : Program) (before after : SourceTold) (sink now : SinkTold) (answer : ℕ) : Type 0 where
+  never_began : after ≡ before → Answers (line_of end.WantOfMemory ∷ []) (number_of end.WantOfMemory) sink now answer →
+      MeanCallComes program before after sink now answer
+  began : MeanComes program before after sink now answer → MeanCallComes program before after sink now answer

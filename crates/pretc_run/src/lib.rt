@@ -6,12 +6,14 @@
 //! line that is printed last: `docs/commands.md`, "Statuses".
 #![tactic(auto)]
 
+mod beginning;
 mod closing;
 mod endings;
 mod meaning;
 mod reporting;
 mod running;
 
+pub use beginning::mean_program;
 pub use closing::{close, finish, finish_with, push_line};
 pub use endings::{Ending, WRITE_FAULT};
 pub use meaning::{mean, mean_trace};

@@ -12,17 +12,18 @@ use Rattle.pretc_run.specs.declared.endings.Ending.{Ending}
 use Rattle.pretc_run.specs.declared.endings.Ending.TheVariants.{Done, Refused, Usage, ReadFault, WantOfMemory, BadImage, BadCert, NotAccepted, StoreFault, NotBuilt, NoFile}
 use Rattle.pretc_run.specs.Endings.{number_of, line_of}
 use Rattle.pretc_top.specs.declared.commands.Command.{Command}
-use Rattle.pretc_top.specs.declared.commands.Command.TheVariants.{Go, Check, Print, Rules}
+use Rattle.pretc_top.specs.declared.commands.Command.TheVariants.{Go, Check, Print, Rules, Mean, Gen}
 use Rattle.mb_isa.specs.Costs.{unit}
 use Rattle.tk_cert.specs.declared.CertParts.{CertParts}
 use Rattle.tk_cert.specs.Demands.{Demand}
 use Rattle.pretc_top.specs.Outside.{Outside}
 use Rattle.pretc_top.specs.Loading.{IsAsBefore, IsFailedLoad, LoadFails, load_fault, no_file, load_memory, ProgramFails, program_missing, program_refused, program_memory}
-use Rattle.pretc_top.specs.Says.{SaysEnds, said, unsaid, IsPrinted, IsRuled}
+use Rattle.pretc_top.specs.Says.{SaysEnds, said, unsaid, IsPrinted, IsRuled, GenEnds, generates, gen_memory}
+use Rattle.pretc_top.proofs.Shelves.{same_shelf}
 use Rattle.pretc_top.specs.Check.{CheckEnds, other_costs, not_loaded, judged, LoadsFail, no_image, no_cert, Judged, image_fails, cert_fails, not_plain, decided, ImageFails, bad_image, image_memory, CertFails, bad_cert, cert_memory, Decided, accepted, not_accepted, AreLoaded, AreRead, refusal_of, unit_word}
 use Rattle.pretc_top.specs.Go.{IsBuilt, IsMade, IsFailedStore, BuildFails, unread, not_small, StoreFails, store_fault, store_memory, IsUnready, unbuilt, unstored, unloaded}
-use Rattle.pretc_top.specs.Comes.{Ends, no_command, go_ends, check_ends, print_ends, rules_ends}
-use Rattle.pretc_top.specs.Causes.{BreaksRule, IsRefusedBy, go_refused, print_refused, rules_refused, LacksFile, go_lacks, check_lacks, check_lacks_cert, print_lacks, rules_lacks, BoundHolds}
+use Rattle.pretc_top.specs.Comes.{Ends, no_command, go_ends, check_ends, print_ends, rules_ends, mean_ends, gen_ends}
+use Rattle.pretc_top.specs.Causes.{BreaksRule, IsRefusedBy, go_refused, print_refused, rules_refused, mean_refused, LacksFile, go_lacks, check_lacks, check_lacks_cert, print_lacks, rules_lacks, mean_lacks, BoundHolds}
 
 -- by the command, the lines that are due and the ending
 pub data Cause (old new : Outside) : Option (Command (List ℕ)) → List (List ℕ) → Ending → Type 0 where
@@ -124,6 +125,10 @@ module _ (old new : Outside) where
     of_check _ _ (not_loaded e units f) = of_loads e f
     of_check _ _ (judged image_text cert_text line e units l j) = of_judged image_text cert_text line e units l j
 
+  of_gen : (n : ℕ) (due : List (List ℕ)) (e : Ending) → new.shelf ≡ old.shelf → GenEnds n due e → Cause old new (Some (Gen n)) due e
+  of_gen n _ _ s generates = by_done (Some (Gen n)) _ tt (same_shelf old.shelf new.shelf s)
+  of_gen n _ _ s gen_memory = by_memory (Some (Gen n)) (same_shelf old.shelf new.shelf s)
+
   pub cause : (command : Option (Command (List ℕ))) (due : List (List ℕ)) (e : Ending) → Ends old new command due e → Cause old new command due e
   cause _ _ _ (no_command s) = by_usage s
   cause _ _ _ (go_ends program image e f) = of_go program image e f
@@ -132,3 +137,5 @@ module _ (old new : Outside) where
       of_saying old new (Some (Print program)) source.Breaks IsPrinted program due e (print_lacks program) (print_refused program) tt f
   cause _ _ _ (rules_ends program due e f) =
       of_saying old new (Some (Rules program)) BreaksFirst IsRuled program due e (rules_lacks program) (rules_refused program) tt f
+  cause _ _ _ (mean_ends program e f) = of_program old new (Some (Mean program)) BreaksFirst program e (mean_lacks program) (mean_refused program) f
+  cause _ _ _ (gen_ends n due e s f) = of_gen n due e s f

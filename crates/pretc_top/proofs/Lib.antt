@@ -2,6 +2,7 @@ mod Called
 mod Causing
 mod Judging
 mod Lines
+mod Meanings
 mod Meant
 mod Ready
 mod RowsFit

@@ -43,6 +43,9 @@ keeps_same (Some fs) = refl
 pub as_it_was : (shelf : ShelfTold) → IsAsBefore shelf shelf
 as_it_was shelf = record { files = keeps_same shelf.files; load_faults = refl; store_faults = refl }
 
+pub same_shelf : (old new : ShelfTold) → new ≡ old → IsAsBefore old new
+same_shelf old new s = let P : ShelfTold → Type 0 = λ t. IsAsBefore old t in subst P (sym s) (as_it_was old)
+
 pub before_both : (old mid new : ShelfTold) → IsAsBefore old mid → IsAsBefore mid new → IsAsBefore old new
 before_both old mid new a b = record {
   files = keeps_both old.files mid.files new.files a.files b.files;

@@ -12,13 +12,16 @@ use Rattle.pretc_run.specs.Endings.{number_of, line_of}
 use Rattle.pretc_run.specs.Writing.{Wrote, BrokeOff, IsAnswered, Answers, answered, broke_off}
 use Rattle.pretc_run.specs.Running.{HasFailed, RunEnds, run_done, run_bad, run_fault, run_trapped, IsNext, next_tick, next_last}
 use Rattle.pretc_top.specs.declared.commands.Command.{Command}
-use Rattle.pretc_top.specs.declared.commands.Command.TheVariants.{Go, Check, Print, Rules}
+use Rattle.pretc_top.specs.declared.commands.Command.TheVariants.{Go, Mean}
+use Rattle.pc_meaning.specs.Programs.{program_of}
+use Rattle.pretc_run.specs.Meant.{width_of, meant_lines, MeanEnds, mean_done, mean_bad, mean_fault, mean_lacks, IsNextMeant, next_meant, next_end}
+use Rattle.pretc_top.specs.Mean.{IsMeant, MeanRan, MeanBroke}
 use Rattle.pretc_top.specs.Outside.{Outside, IsLater}
 use Rattle.pretc_top.specs.Loading.{IsAsBefore}
 use Rattle.pretc_top.specs.Go.{cycles_most, go_lines, IsMade, GoRan, GoBroke}
-use Rattle.pretc_top.specs.Comes.{Ends, no_command, go_ends, check_ends, print_ends, rules_ends, Ran, go_ran, Broke, go_broke, Comes, ends, ran, broke}
+use Rattle.pretc_top.specs.Comes.{Ends, no_command, go_ends, check_ends, print_ends, rules_ends, mean_ends, gen_ends, Ran, go_ran, mean_ran, Broke, go_broke, mean_broke, Comes, ends, ran, broke}
 use Rattle.pretc_top.specs.Causes.{BoundHolds, IsRefusedBy, LacksFile, IsSent, Causes}
-use Rattle.pretc_top.specs.Stands.{OnlySaid, GoStopped, AfterReadFault, load_failed, pull_failed, GoPulled, AfterWriteFault, before_the_trace, in_the_report, AfterMemory, memory_before, memory_stored, AfterBadTrace, go_bad_trace, AfterStoreFault, go_store_failed}
+use Rattle.pretc_top.specs.Stands.{OnlySaid, GoStopped, AfterReadFault, load_failed, pull_failed, mean_pull_failed, GoPulled, AfterWriteFault, before_the_trace, in_the_report, in_the_meaning, AfterMemory, memory_before, memory_stored, memory_at_a_tick, AfterBadTrace, go_bad_trace, mean_bad_trace, AfterStoreFault, go_store_failed}
 use Rattle.pretc_top.proofs.Causing.{Cause, by_done, by_refusal, by_usage, by_load, by_memory, by_stored, by_image, by_cert, by_demand, by_store, by_form, by_absence, cause}
 
 -- ---- an ending without a run, by the number that is answered
@@ -103,6 +106,8 @@ module _ (old new : Outside) where
   none_is_usage _ _ _ (check_ends image cert costs due e f) n = absurd (cc)
   none_is_usage _ _ _ (print_ends program due e f) n = absurd (cc)
   none_is_usage _ _ _ (rules_ends program due e f) n = absurd (cc)
+  none_is_usage _ _ _ (mean_ends program e f) n = absurd (cc)
+  none_is_usage _ _ _ (gen_ends m due e s f) n = absurd (cc)
 
   never_four : (e : Ending) → number_of e ≢ 4
   never_four Done n = absurd (omega (arith, n))
@@ -290,7 +295,126 @@ by_broken_go program name old new answer is g =
     }))
     (record { load_faults = omega (arith, loads); store_faults = omega (arith, stores); source_faults = p.later; sink_faults = g.breaks.broke.later })
 
+-- ---- a meaning
+
+module _ (program : List ℕ) (old new : Outside) (meant : IsMeant program old new) (rows : List (List ℤ)) where
+  meant_fault : (last : List ℕ) (e : Ending) → MeanEnds (program_of meant.typing) rows old.source new.source last e →
+      Wrote old.sink new.sink (meant_lines (program_of meant.typing) rows ++ last ∷ []) → number_of e ≡ 3 → AfterReadFault old new (Some (Mean program))
+  meant_fault _ _ (mean_fault read cut failed) w n = mean_pull_failed program failed (record { meant = meant; rows = rows; trace = cut; wrote = w })
+  meant_fault _ _ r w n = absurd (omega (arith, n))
+
+  meant_bad : (last : List ℕ) (e : Ending) → MeanEnds (program_of meant.typing) rows old.source new.source last e →
+      Wrote old.sink new.sink (meant_lines (program_of meant.typing) rows ++ last ∷ []) → number_of e ≡ 7 → AfterBadTrace old new (Some (Mean program))
+  meant_bad _ _ (mean_bad rule line read bad stays) w n = mean_bad_trace program rule line stays (record { meant = meant; rows = rows; trace = bad; wrote = w })
+  meant_bad _ _ r w n = absurd (omega (arith, n))
+
+  meant_memory : (last : List ℕ) (e : Ending) → MeanEnds (program_of meant.typing) rows old.source new.source last e →
+      Wrote old.sink new.sink (meant_lines (program_of meant.typing) rows ++ last ∷ []) → number_of e ≡ 5 → AfterMemory old new (Some (Mean program))
+  meant_memory _ _ (mean_lacks row read stays) w n = memory_at_a_tick program row stays (record { meant = meant; rows = rows; trace = read; wrote = w })
+  meant_memory _ _ r w n = absurd (omega (arith, n))
+
+  meant_rose : (last : List ℕ) (e : Ending) → MeanEnds (program_of meant.typing) rows old.source new.source last e → number_of e ≡ 3 → Rose old.source.faults new.source.faults
+  meant_rose _ _ (mean_fault read cut failed) n = failed.rose
+  meant_rose _ _ r n = absurd (omega (arith, n))
+
+  meant_kept : (last : List ℕ) (e : Ending) → MeanEnds (program_of meant.typing) rows old.source new.source last e → number_of e ≢ 3 → new.source.faults ≡ old.source.faults
+  meant_kept _ _ (mean_done read whole stays) n = stays
+  meant_kept _ _ (mean_bad rule line read bad stays) n = stays
+  meant_kept _ _ (mean_fault read cut failed) n = absurd (n refl)
+  meant_kept _ _ (mean_lacks row read stays) n = stays
+
+  meant_later : (last : List ℕ) (e : Ending) → MeanEnds (program_of meant.typing) rows old.source new.source last e → old.source.faults ≤ new.source.faults
+  meant_later _ _ (mean_done read whole stays) = omega (arith, stays)
+  meant_later _ _ (mean_bad rule line read bad stays) = omega (arith, stays)
+  meant_later _ _ (mean_fault read cut failed) = failed.later
+  meant_later _ _ (mean_lacks row read stays) = omega (arith, stays)
+
+  meant_other : (last : List ℕ) (e : Ending) (n : ℕ) → MeanEnds (program_of meant.typing) rows old.source new.source last e → number_of e ≡ n → (n ≢ 0) → (n ≢ 3) → (n ≢ 5) → (n ≢ 7) → ⊥
+  meant_other _ _ n (mean_done read whole stays) is a b c d = a (sym is)
+  meant_other _ _ n (mean_bad rule line read bad stays) is a b c d = d (sym is)
+  meant_other _ _ n (mean_fault read cut failed) is a b c d = b (sym is)
+  meant_other _ _ n (mean_lacks row read stays) is a b c d = c (sym is)
+
+  -- the rows that were read when the line behind those of these rows was due
+  record MeantPulled : Type 0 where
+    pub read : List (List ℤ)
+    pub has_read : HasRead (width_of (program_of meant.typing)) old.source.left new.source.left read
+    pub one_more : length read ≤ length rows + 1
+    pub later : old.source.faults ≤ new.source.faults
+
+  meant_same : HasRead (width_of (program_of meant.typing)) old.source.left new.source.left rows → old.source.faults ≤ new.source.faults → MeantPulled
+  meant_same h l = record { read = rows; has_read = h; one_more = omega arith; later = l }
+
+  meant_more : (row : List ℤ) → HasRead (width_of (program_of meant.typing)) old.source.left new.source.left (rows ++ row ∷ []) → old.source.faults ≤ new.source.faults → MeantPulled
+  meant_more row h l = record { read = rows ++ row ∷ []; has_read = h; one_more = omega (arith, length-append rows (row ∷ [])); later = l }
+
+  meant_last : (last : List ℕ) (e : Ending) → MeanEnds (program_of meant.typing) rows old.source new.source last e → MeantPulled
+  meant_last _ _ (mean_done read whole stays) = meant_same read (omega (arith, stays))
+  meant_last _ _ (mean_bad rule line read bad stays) = meant_same read (omega (arith, stays))
+  meant_last _ _ (mean_fault read cut failed) = meant_same read failed.later
+  meant_last _ _ (mean_lacks row read stays) = meant_more row read (omega (arith, stays))
+
+  meant_pulled : (line : List ℕ) → IsNextMeant (program_of meant.typing) rows old.source new.source line → MeantPulled
+  meant_pulled _ (next_meant row outputs read means stays) = meant_more row read (omega (arith, stays))
+  meant_pulled _ (next_end e line ended) = meant_last line e ended
+
+by_mean : (program : List ℕ) (old new : Outside) (due : List (List ℕ)) (e : Ending) (answer : ℕ) → MeanRan program old new due e →
+    IsAnswered due (number_of e) old.sink new.sink answer → Causes (Some (Mean program)) old new answer
+by_mean program old new due e answer g h =
+    let is : (n : ℕ) → answer ≡ n → number_of e ≡ n = λ n a. sym h.answer_is ∙ a in
+    let other : (n : ℕ) → answer ≡ n → n ≢ 0 → n ≢ 3 → n ≢ 5 → n ≢ 7 → ⊥ = λ n a zero three five seven.
+    meant_other program old new g.meant g.rows g.last e n g.ends (is n a) zero three five seven in
+    let P : List (List ℕ) → Type 0 = λ lines. Wrote old.sink new.sink lines in
+    let wrote = subst P g.due_is h.wrote in
+    let pushes : new.sink.faults ≡ old.sink.faults = h.wrote.faults in
+    let loads : new.shelf.load_faults ≡ old.shelf.load_faults = g.meant.kept.load_faults in
+    let stores : new.shelf.store_faults ≡ old.shelf.store_faults = g.meant.kept.store_faults in
+    record {
+      bound = λ a. tt;
+      refused = λ a. absurd (other 1 a (λ n. omega (arith, n)) (λ n. omega (arith, n)) (λ n. omega (arith, n)) (λ n. omega (arith, n)));
+      usage = λ a. absurd (other 2 a (λ n. omega (arith, n)) (λ n. omega (arith, n)) (λ n. omega (arith, n)) (λ n. omega (arith, n)));
+      usage_comes = λ n. absurd (cc);
+      read_fault = λ a. inr (meant_rose program old new g.meant g.rows g.last e g.ends (is 3 a));
+      after_read_fault = λ a. meant_fault program old new g.meant g.rows g.last e g.ends wrote (is 3 a);
+      write_fault = λ a. absurd (other 4 a (λ n. omega (arith, n)) (λ n. omega (arith, n)) (λ n. omega (arith, n)) (λ n. omega (arith, n)));
+      after_write_fault = λ a. absurd (other 4 a (λ n. omega (arith, n)) (λ n. omega (arith, n)) (λ n. omega (arith, n)) (λ n. omega (arith, n)));
+      after_memory = λ a. meant_memory program old new g.meant g.rows g.last e g.ends wrote (is 5 a);
+      bad_trace = λ a. meant_bad program old new g.meant g.rows g.last e g.ends wrote (is 7 a);
+      store_fault = λ a. absurd (other 11 a (λ n. omega (arith, n)) (λ n. omega (arith, n)) (λ n. omega (arith, n)) (λ n. omega (arith, n)));
+      after_store_fault = λ a. absurd (other 11 a (λ n. omega (arith, n)) (λ n. omega (arith, n)) (λ n. omega (arith, n)) (λ n. omega (arith, n)));
+      no_file = λ a. absurd (other 17 a (λ n. omega (arith, n)) (λ n. omega (arith, n)) (λ n. omega (arith, n)) (λ n. omega (arith, n)));
+      sent = λ a. record { lines = due; wrote = h.wrote; sent = h.sent };
+      load_kept = λ three four. loads;
+      pull_kept = λ three four. meant_kept program old new g.meant g.rows g.last e g.ends (λ n. three (h.answer_is ∙ n));
+      store_kept = λ eleven four. stores;
+      later = record {
+        load_faults = omega (arith, loads);
+        store_faults = omega (arith, stores);
+        source_faults = meant_later program old new g.meant g.rows g.last e g.ends;
+        sink_faults = omega (arith, pushes);
+      };
+    }
+
+by_broken_mean : (program : List ℕ) (old new : Outside) (answer : ℕ) → answer ≡ 4 → MeanBroke program old new → Causes (Some (Mean program)) old new answer
+by_broken_mean program old new answer is g =
+    let p = meant_pulled program old new g.meant g.breaks.rows g.breaks.next g.breaks.is_next in
+    let loads : new.shelf.load_faults ≡ old.shelf.load_faults = g.meant.kept.load_faults in
+    let stores : new.shelf.store_faults ≡ old.shelf.store_faults = g.meant.kept.store_faults in
+    failed old new (Some (Mean program)) answer is g.breaks.broke.rose
+    (in_the_meaning program (record {
+      meant = g.meant;
+      rows = g.breaks.rows;
+      next = g.breaks.next;
+      broke = g.breaks.broke;
+      read = p.read;
+      has_read = p.has_read;
+      one_more = p.one_more;
+    }))
+    (record { load_faults = omega (arith, loads); store_faults = omega (arith, stores); source_faults = p.later; sink_faults = g.breaks.broke.later })
+
 pub causes : (command : Option (Command (List ℕ))) (old new : Outside) (answer : ℕ) → Comes command old new answer → Causes command old new answer
 causes command old new answer (ends due e en s h) = by_ends old new command due e answer en s h
 causes _ old new answer (ran _ _ (go_ran program name due e g) h) = by_go program name old new due e answer g h
 causes _ old new answer (broke is (go_broke program name g)) = by_broken_go program name old new answer is g
+causes _ old new answer (ran _ _ (mean_ran program due e g) h) = by_mean program old new due e answer g h
+causes _ old new answer (broke is (mean_broke program g)) = by_broken_mean program old new answer is g

@@ -13,7 +13,7 @@ use Rattle.pc_source.specs.Sources.{Breaks}
 use Rattle.pc_verdict.specs.Verdicts.{BreaksFirst}
 use Rattle.pretc_run.specs.Writing.{Wrote}
 use Rattle.pretc_top.specs.declared.commands.Command.{Command}
-use Rattle.pretc_top.specs.declared.commands.Command.TheVariants.{Go, Check, Print, Rules}
+use Rattle.pretc_top.specs.declared.commands.Command.TheVariants.{Go, Check, Print, Rules, Mean}
 use Rattle.pretc_top.specs.Outside.{Outside, IsLater}
 use Rattle.pretc_top.specs.Loading.{source_most}
 use Rattle.pretc_top.specs.Check.{image_most, cert_most, unit_word, IsImageText, IsCertText}
@@ -32,6 +32,7 @@ pub data IsRefusedBy (files : Option Files) : Option (Command (List ℕ)) → Ty
   go_refused : (program image : List ℕ) → BreaksRule BreaksFirst program files → IsRefusedBy files (Some (Go program image))
   print_refused : (program : List ℕ) → BreaksRule Breaks program files → IsRefusedBy files (Some (Print program))
   rules_refused : (program : List ℕ) → BreaksRule BreaksFirst program files → IsRefusedBy files (Some (Rules program))
+  mean_refused : (program : List ℕ) → BreaksRule BreaksFirst program files → IsRefusedBy files (Some (Mean program))
 
 -- the file to be loaded next isn't among the files that the shelf tells of
 pub data LacksFile (files : Option Files) : Option (Command (List ℕ)) → Type 0 where
@@ -41,6 +42,7 @@ pub data LacksFile (files : Option Files) : Option (Command (List ℕ)) → Type
       LacksFile files (Some (Check image cert costs))
   print_lacks : (program : List ℕ) → Lacks files program → LacksFile files (Some (Print program))
   rules_lacks : (program : List ℕ) → Lacks files program → LacksFile files (Some (Rules program))
+  mean_lacks : (program : List ℕ) → Lacks files program → LacksFile files (Some (Mean program))
 
 -- the two files of a check at unit costs were loaded, and the bound of the certificate bounds the image
 pub record IsBound (image cert costs : List ℕ) (files : Option Files) : Type 0 where

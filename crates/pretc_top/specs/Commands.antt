@@ -1,13 +1,37 @@
 -- The words of the command line: docs/commands.md.
-use Rattle.std.specs.Prelude.{◌&&◌, not, if◌then◌else◌, ℕ, List, [], ◌∷◌, codes, Option, Some, None}
+use Rattle.std.specs.Prelude.{◌+◌, ◌*◌, ◌-◌, nat_le, ◌&&◌, not, if◌then◌else◌, ℕ, List, [], ◌∷◌, codes, Option, Some, None}
+use Rattle.std.specs.Option.{option_map}
 use Rattle.std.specs.Str.{bytes_eq}
 use Rattle.pretc_top.specs.declared.commands.Command.{Command}
-use Rattle.pretc_top.specs.declared.commands.Command.TheVariants.{Go, Check, Print, Rules}
+use Rattle.pretc_top.specs.declared.commands.Command.TheVariants.{Go, Check, Print, Rules, Mean, Gen}
+
+-- a decimal from 1 to 62 without a leading zero
+abbrev pub of_digit : ℕ → Option ℕ
+of_digit d = if nat_le 49 d && nat_le d 57 then Some (d - 48) else None
+
+abbrev pub of_digits : ℕ → ℕ → Option ℕ
+of_digits d e =
+    if (nat_le 49 d && nat_le d 57) && (nat_le 48 e && nat_le e 57) && nat_le (10 * (d - 48) + (e - 48)) 62 then Some (10 * (d - 48) + (e - 48)) else None
+
+abbrev pub threads_of : List ℕ → Option ℕ
+threads_of (d ∷ []) = of_digit d
+threads_of (d ∷ e ∷ []) = of_digits d e
+threads_of word = None
+
+abbrev pub generating : List ℕ → Option (Command (List ℕ))
+generating word = option_map Gen (threads_of word)
+
+-- the command of two words
+abbrev pub of_two : (verb word : List ℕ) → Option (Command (List ℕ))
+of_two verb word =
+    if bytes_eq verb (codes "print") then Some (Print word)
+    else if bytes_eq verb (codes "rules") then Some (Rules word)
+    else if bytes_eq verb (codes "mean") then Some (Mean word)
+    else if bytes_eq verb (codes "gen") then generating word else None
 
 -- the command that words are, if they are one; `go` with two equal names is none
 abbrev pub command_of : List (List ℕ) → Option (Command (List ℕ))
-command_of (verb ∷ program ∷ []) =
-    if bytes_eq verb (codes "print") then Some (Print program) else if bytes_eq verb (codes "rules") then Some (Rules program) else None
+command_of (verb ∷ word ∷ []) = of_two verb word
 command_of (verb ∷ program ∷ image ∷ []) = if bytes_eq verb (codes "go") && not (bytes_eq program image) then Some (Go program image) else None
 command_of (verb ∷ image ∷ cert ∷ costs ∷ []) = if bytes_eq verb (codes "check") then Some (Check image cert costs) else None
 command_of words = None

@@ -4,6 +4,7 @@ pub mod Comes
 pub mod Commands
 pub mod Go
 pub mod Loading
+pub mod Mean
 pub mod Named
 pub mod Outside
 pub mod Refusing

@@ -2,10 +2,12 @@
 use Rattle.std.specs.Prelude.{ℕ, List, Option, Some, None}
 use Rattle.std.specs.Borrow.{Bor}
 use Rattle.pretc_top.specs.declared.commands.Command.{Command}
-use Rattle.pretc_top.specs.declared.commands.Command.TheVariants.{Go, Check, Print, Rules}
+use Rattle.pretc_top.specs.declared.commands.Command.TheVariants.{Go, Check, Print, Rules, Mean, Gen}
 
 abbrev pub named : Command (Bor (List ℕ)) → Command (List ℕ)
 named (Go program image) = Go program.now image.now
 named (Check image cert costs) = Check image.now cert.now costs.now
 named (Print program) = Print program.now
 named (Rules program) = Rules program.now
+named (Mean program) = Mean program.now
+named (Gen n) = Gen n

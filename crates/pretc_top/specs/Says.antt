@@ -1,4 +1,4 @@
--- What the commands that say something of a program come to, `print` and `rules`: docs/commands.md.
+-- What the commands that say something of a program come to, `print` and `rules`, and `gen`, which says one: docs/commands.md.
 use Rattle.std.specs.Prelude.{◌≡◌, ℕ, List, [], ◌∷◌, ◌++◌, map, Option, Result, Ok, Err, count_by, sum_by}
 use Rattle.pt_base.specs.declared.Rule.{Rule}
 use Rattle.pt_base.specs.declared.Span.{Span}
@@ -14,8 +14,9 @@ use Rattle.pc_print.specs.Canonical.{program_text}
 use Rattle.pc_typed.specs.Typing.{Typing}
 use Rattle.pc_weights.specs.Weights.{program_weight, program_single}
 use Rattle.pc_verdict.specs.Verdicts.{IsAccepted}
+use Rattle.pc_generator.specs.Generated.{generated}
 use Rattle.pretc_run.specs.declared.endings.Ending.{Ending}
-use Rattle.pretc_run.specs.declared.endings.Ending.TheVariants.{Done}
+use Rattle.pretc_run.specs.declared.endings.Ending.TheVariants.{Done, WantOfMemory}
 use Rattle.pretc_run.specs.Endings.{number_of, line_of}
 use Rattle.pretc_run.specs.Writing.{first_of, Wrote, BrokeOff, Answers}
 use Rattle.pretc_top.specs.Loading.{source_most, IsLoaded, IsAsBefore, ProgramFails}
@@ -57,3 +58,8 @@ pub record PrintsTree (program : List ℕ) (files : Option Files) (printed : Lis
 abbrev pub Pushes : {T : Type 0} → List (List ℕ) → SinkTold → SinkTold → Result T Failed → Type 0
 Pushes lines before after (Ok done) = Wrote before after lines
 Pushes lines before after (Err failed) = (whole : List (List ℕ)) × ((rest : List (List ℕ)) × ((lines ≡ whole ++ rest) × BrokeOff before after whole (first_of rest)))
+
+-- how `gen` ends, with the lines that are due
+pub data GenEnds (n : ℕ) : List (List ℕ) → Ending → Type 0 where
+  generates : GenEnds n (lines_of (generated n)) Done
+  gen_memory : GenEnds n (line_of WantOfMemory ∷ []) WantOfMemory

@@ -9,9 +9,12 @@ use Rattle.pretc_run.specs.Endings.{line_of}
 use Rattle.pretc_run.specs.Running.{HasFailed}
 use Rattle.pretc_run.specs.Writing.{first_of, Wrote, BrokeOff}
 use Rattle.pretc_top.specs.declared.commands.Command.{Command}
-use Rattle.pretc_top.specs.declared.commands.Command.TheVariants.{Go}
+use Rattle.pretc_top.specs.declared.commands.Command.TheVariants.{Go, Mean}
 use Rattle.pretc_top.specs.Outside.{Outside}
 use Rattle.pretc_top.specs.Loading.{IsAsBefore, IsFailedLoad}
+use Rattle.pc_meaning.specs.Programs.{program_of}
+use Rattle.pretc_run.specs.Meant.{width_of, meant_lines}
+use Rattle.pretc_top.specs.Mean.{IsMeant}
 use Rattle.pretc_top.specs.Go.{go_lines, IsBuilt, IsFailedStore, IsMade}
 use Rattle.pretc_top.specs.Comes.{Ends}
 
@@ -29,12 +32,23 @@ pub record GoStopped (program name : List ℕ) (old new : Outside) (e : Ending) 
   pub trace : P (length image.inputs) rows
   pub wrote : Wrote old.sink new.sink (go_lines image rows ++ line_of e ∷ [])
 
+-- The program of `mean` was taken, the trace gave these rows, and the lines of their ticks were written and then that of this
+-- ending.
+pub record MeanStopped (program : List ℕ) (old new : Outside) (e : Ending) (P : (width : ℕ) → (rows : List (List ℤ)) → Type 0) : Type 0 where
+  pub meant : IsMeant program old new
+  pub rows : List (List ℤ)
+  pub trace : P (width_of (program_of meant.typing)) rows
+  pub wrote : Wrote old.sink new.sink (meant_lines (program_of meant.typing) rows ++ line_of e ∷ [])
+
 -- 3: a load failed, or a pull of the trace, and the rows are then those of its lines that stand whole in what was pulled
 pub data AfterReadFault (old new : Outside) : Option (Command (List ℕ)) → Type 0 where
   load_failed : (command : Option (Command (List ℕ))) → IsFailedLoad old.shelf new.shelf → OnlySaid old new ReadFault → AfterReadFault old new command
   pull_failed : (program image : List ℕ) → HasFailed old.source new.source →
       GoStopped program image old new ReadFault (λ width rows. IsCut width old.source.left new.source.left rows) →
       AfterReadFault old new (Some (Go program image))
+  mean_pull_failed : (program : List ℕ) → HasFailed old.source new.source →
+      MeanStopped program old new ReadFault (λ width rows. IsCut width old.source.left new.source.left rows) →
+      AfterReadFault old new (Some (Mean program))
 
 -- The report of `go` broke off after the lines of the ticks on some rows, in the line after them. Of the trace no more was
 -- pulled than the lines of the rows that were read, at most one more than those, and 2,048 bytes.
@@ -48,23 +62,40 @@ pub record GoPulled (program name : List ℕ) (old new : Outside) : Type 0 where
   pub has_read : HasRead (length image.inputs) old.source.left new.source.left read
   pub one_more : length read ≤ length rows + 1
 
+-- the same of `mean`
+pub record MeanPulled (program : List ℕ) (old new : Outside) : Type 0 where
+  pub meant : IsMeant program old new
+  pub rows : List (List ℤ)
+  pub next : List ℕ
+  pub broke : BrokeOff old.sink new.sink (meant_lines (program_of meant.typing) rows) next
+  pub read : List (List ℤ)
+  pub has_read : HasRead (width_of (program_of meant.typing)) old.source.left new.source.left read
+  pub one_more : length read ≤ length rows + 1
+
 -- 4: a front of the lines that were due was written, before the trace was read or in the report
 pub data AfterWriteFault (old new : Outside) : Option (Command (List ℕ)) → Type 0 where
   before_the_trace : (command : Option (Command (List ℕ))) (due whole rest : List (List ℕ)) (e : Ending) → Ends old new command due e →
       new.source ≡ old.source → due ≡ whole ++ rest → BrokeOff old.sink new.sink whole (first_of rest) → AfterWriteFault old new command
   in_the_report : (program image : List ℕ) → GoPulled program image old new → AfterWriteFault old new (Some (Go program image))
+  in_the_meaning : (program : List ℕ) → MeanPulled program old new → AfterWriteFault old new (Some (Mean program))
 
--- 5: nothing was stored, or the image was; it comes before the report
+-- 5: nothing was stored, or the image was, before a report; or `mean` found no memory for the tick on one row more
 pub data AfterMemory (old new : Outside) : Option (Command (List ℕ)) → Type 0 where
   memory_before : (command : Option (Command (List ℕ))) → IsAsBefore old.shelf new.shelf → OnlySaid old new WantOfMemory → AfterMemory old new command
   memory_stored : (program name : List ℕ) (image : Parts) → IsMade program name image old.shelf new.shelf → OnlySaid old new WantOfMemory →
       AfterMemory old new (Some (Go program name))
+  memory_at_a_tick : (program : List ℕ) (row : List ℤ) → new.source.faults ≡ old.source.faults →
+      MeanStopped program old new WantOfMemory (λ width rows. HasRead width old.source.left new.source.left (rows ++ row ∷ [])) →
+      AfterMemory old new (Some (Mean program))
 
 -- 7: the rows are those before the first bad line of the trace, which is refused by this rule
 pub data AfterBadTrace (old new : Outside) : Option (Command (List ℕ)) → Type 0 where
   go_bad_trace : (program image : List ℕ) (rule line : ℕ) → new.source.faults ≡ old.source.faults →
       GoStopped program image old new (BadTrace rule line) (λ width rows. IsBad width old.source.left rows rule line) →
       AfterBadTrace old new (Some (Go program image))
+  mean_bad_trace : (program : List ℕ) (rule line : ℕ) → new.source.faults ≡ old.source.faults →
+      MeanStopped program old new (BadTrace rule line) (λ width rows. IsBad width old.source.left rows rule line) →
+      AfterBadTrace old new (Some (Mean program))
 
 -- 11: the image was built, and its store failed
 pub data AfterStoreFault (old new : Outside) : Option (Command (List ℕ)) → Type 0 where

@@ -5,7 +5,9 @@ ghost use Rattle.pretc_top.specs.Causes.{Causes};
 
 use crate::checking::check_files;
 use crate::commands::{Command, command_of};
+use crate::generating::print_generated;
 use crate::going::go;
+use crate::meaning::mean;
 use crate::printing::print_program;
 use crate::ruling::rules_of_program;
 use pretc_run::{Ending, finish};
@@ -33,6 +35,8 @@ fn called<H: Shelf, I: Source, O: Sink>(
         }
         Some(Command::Print(program)) => print_program(alloc, program, shelf, out),
         Some(Command::Rules(program)) => rules_of_program(alloc, program, shelf, out),
+        Some(Command::Mean(program)) => mean(alloc, program, shelf, input, out),
+        Some(Command::Gen(threads)) => print_generated(alloc, threads, out),
     }
 }
 

@@ -8,7 +8,9 @@
 mod calling;
 mod checking;
 mod commands;
+mod generating;
 mod going;
+mod meaning;
 mod printing;
 mod ruling;
 mod saying;

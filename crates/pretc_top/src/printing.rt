@@ -73,8 +73,8 @@ fn printed<H: Shelf>(alloc: Global, program: &Text, shelf: &mut H) -> Result<Tex
     }
 }
 
-// The end of a call that has this text to print, line by line.
-fn finish_lines<O: Sink>(text: &[u8], out: &mut O) -> u8
+/// The end of a call that has this text to print, line by line.
+pub fn finish_lines<O: Sink>(text: &[u8], out: &mut O) -> u8
     ensures answers { Answers (lines_of text.now) 0 (O.told out.old) (O.told out.new) result }
 {
     match push_lines(text, out) {

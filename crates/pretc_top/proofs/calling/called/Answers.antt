@@ -6,7 +6,7 @@ use Rattle.pretc_top.specs.declared.commands.Command.{Command}
 use Rattle.pretc_top.specs.Named.{named}
 use Rattle.pretc_top.specs.Outside.{outside}
 use Rattle.pretc_top.specs.Comes.{Comes, ends, no_command}
-use Rattle.pretc_top.proofs.Called.{check_comes, print_comes, rules_comes}
+use Rattle.pretc_top.proofs.Called.{check_comes, print_comes, gen_comes, rules_comes}
 use Rattle.pretc_top.proofs.calling.called.Goals as goal
 
 pub returns-in-None : goal.returns-in-None
@@ -51,4 +51,21 @@ returns-in-Some-Rules g c =
     record {
       comes = subst P (sym (ap (option_map named) (c.in-Some-Rules.is ∙ ap Some c.in-Some-Rules.field-0-is)) ∙ c.command_of.ensures)
           (rules_comes _ _ _ _ _ _ _ c.rules_of_program.ensures.concludes);
+    }
+
+pub returns-in-Some-Mean : goal.returns-in-Some-Mean
+returns-in-Some-Mean g c =
+    let P : Option (Command (List ℕ)) → Type 0 = λ command. Comes command
+    (outside (g.H.Shelf.told c.args.shelf.now) (g.I.Source.told c.args.input.now) (g.O.Sink.told c.args.out.now))
+    (outside (g.H.Shelf.told c.mean.new.shelf) (g.I.Source.told c.mean.new.input) (g.O.Sink.told c.mean.new.out)) c.mean.result in
+    record { comes = subst P (sym (ap (option_map named) (c.in-Some-Mean.is ∙ ap Some c.in-Some-Mean.field-0-is)) ∙ c.command_of.ensures) c.mean.ensures.comes }
+
+pub returns-in-Some-Gen : goal.returns-in-Some-Gen
+returns-in-Some-Gen g c =
+    let P : Option (Command (List ℕ)) → Type 0 = λ command. Comes command
+    (outside (g.H.Shelf.told c.args.shelf.now) (g.I.Source.told c.args.input.now) (g.O.Sink.told c.args.out.now))
+    (outside (g.H.Shelf.told c.args.shelf.now) (g.I.Source.told c.args.input.now) (g.O.Sink.told c.print_generated.new.out)) c.print_generated.result in
+    record {
+      comes = subst P (sym (ap (option_map named) (c.in-Some-Gen.is ∙ ap Some c.in-Some-Gen.field-0-is)) ∙ c.command_of.ensures)
+          (gen_comes _ _ _ _ _ _ _ refl c.print_generated.ensures.concludes);
     }

@@ -1,5 +1,5 @@
 -- The counts of a residual are within simple bounds.
-use Rattle.std.proofs.Common.{ℕ, ◌+◌, ◌*◌, ◌≤◌, max, List, [], ◌∷◌, mul-le-mul_right, arith}
+use Rattle.std.proofs.Common.{ℕ, ◌+◌, ◌*◌, ◌≤◌, List, mul-le-mul_right, arith}
 use Rattle.pc_ir.specs.Flow.{Node, Nodes, straight, sequence, branch, turns, bounded, call, pause, fork, guard, no_nodes, and, Rest, Rests}
 use Rattle.pc_ir.specs.Residuals.{body_at, Of, OfAll, OfThreads, of_list, of_first, of_second, of_turns, of_pause, of_guard, of_fork, of_last, of_head, of_tail, of_nobody, of_over, of_going}
 use Rattle.pc_region.specs.Counts.{Sizes, through, through_all, reach, reach_all, done_in, rest_in, done_in_all, rest_in_all, all_in, tick_in}

@@ -16,7 +16,6 @@ use Rattle.mb_pfu.specs.Calls as unit
 use Rattle.mb_step.specs.Words.{Go, on, on_to}
 use Rattle.mb_step.specs.Step.{Rules, Moves, step}
 use Rattle.mb_step.specs.Free.{numbers_of}
-use Rattle.pc_ir.specs.Flow.{turns, again}
 use Rattle.pc_region.specs.Slots.{IsChild, AreChildren, Under, self, FitsGroup, IsGood}
 use Rattle.pc_region.specs.Places.{place_in, word_in, first_in, first_child, slot_start, Has}
 use Rattle.pc_region.specs.Law.{Nesting, unnested, with_link, with_counter, unit_at, placed, turning}

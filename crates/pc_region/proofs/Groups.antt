@@ -103,8 +103,8 @@ module _ (image : Parts) where
   stands-relieved (group i rs) e t h = rw h.1 refl
 
   -- a fired entry is caught from below all that a residual enters
-  pub up-caught : (r : Rest) (context : Context) (e : List Watch) (w : Watch) (t : Tree) → w.entry.fired ≡ true → Stands image (e ++ w ∷ []) r t → rested context t ≡ plug context (Leaf e (Running w.entry.handler))
-  up-caught r context e w t f h =
+  pub rested-caught : (r : Rest) (context : Context) (e : List Watch) (w : Watch) (t : Tree) → w.entry.fired ≡ true → Stands image (e ++ w ∷ []) r t → rested context t ≡ plug context (Leaf e (Running w.entry.handler))
+  rested-caught r context e w t f h =
       ap (climb context) (stands-relieved r (e ++ w ∷ []) t h ∙ ap (relieved_tree t) (relief-fired e w f))
       ∙ unit_laws.climb-ready context (Leaf e (Running w.entry.handler)) refl
 

@@ -1,5 +1,5 @@
 -- The ticks of an image are those of its flow.
-use Rattle.std.proofs.Common.{◌≡◌, ℕ, ℤ, ◌+◌, ◌<◌, Bool, List, [], ◌∷◌, length, refl, sym, ap, ◌∙◌, subst}
+use Rattle.std.proofs.Common.{◌≡◌, ℕ, ℤ, Bool, List, [], ◌∷◌, refl, sym, ◌∙◌, subst}
 use Rattle.mb_pfu.specs.Tree.{Tree, Leaf, Running, Finished}
 use Rattle.mb_pfu.specs.Unit.{State as UnitState}
 use Rattle.pt_image.specs.declared.Parts.{Parts}
@@ -61,7 +61,7 @@ module _ (parent : ℕ → ℕ) (image : Parts) (costs : List ℕ) (f : Flow) (w
       Says image costs rules Represents (Calm before) j (fires_of f.aborts before j) js u d (condition_words writing f j)
   says before j js u d state rep calm =
       let t = condition_of f j in
-      let quiet = whole.quiet j state before calm.0 in
+      let quiet = whole.quiet j calm.1.0 state before calm.0 in
       subst (λ b. Says image costs rules Represents (Calm before) j b js u d (condition_words writing f j)) quiet.0 (
       says_of image costs rules Represents sizes (sampled f row) writing facts (Calm before) j t js u d state (whole.conditions j calm.1.0) rep (quiet.1 ∙ calm.0, calm.1.1)
       )
@@ -84,7 +84,7 @@ module _ (parent : ℕ → ℕ) (image : Parts) (costs : List ℕ) (f : Flow) (w
   ticks-as-flow (Waits r) before from d stands rep =
       let fires = fires_of f.aborts before in
       let l = later_tick parent image costs rules Represents weak sizes (HasSteps image writing) (HasTest image writing) placing laws f.bodies f.main whole.compiled (sampled f row) fires (condition_words writing f) (Calm before) (says before)
-          (λ x state rep1 calm. facts.sampled x state rep1) r stands.0 from d before stands.1 stands.2 rep (refl, all-are fires r stands.0) in
+      (λ x state rep1 calm. facts.sampled x state rep1) r stands.0 from d before stands.1 stands.2 rep (refl, all-are fires r stands.0) in
       let start = sampled f row l.state in
       tick-is (Waits r) before l.state from d _ (again (flows_of f.bodies) weak fires r start) l.calm.0 (flow_keeps f.bodies weak fires (body_at f.bodies f.main) r stands.0 start) refl l.ticks
   ticks-as-flow Stopped before from d stands rep =

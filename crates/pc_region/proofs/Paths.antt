@@ -11,7 +11,7 @@ use Rattle.pt_image.specs.declared.Parts.{Parts}
 use Rattle.mb_step.specs.Control.{Control, Turn, goes}
 use Rattle.mb_step.specs.Step.{Rules, Moves, step}
 use Rattle.mb_step.specs.Tick.{Steps, still, onward}
-use Rattle.pc_ir.specs.Flow.{Nodes, no_nodes, and, Rest, within, End, Through, Halted, later, then_do, go, State as FlowState}
+use Rattle.pc_ir.specs.Flow.{Nodes, no_nodes, and, Rest, End, Through, Halted, later, then_do, go, State as FlowState}
 use Rattle.pc_region.specs.Places.{HasJump, wide, short}
 use Rattle.pc_region.specs.Law.{Nesting, unit_at, placed, Comes, Halts, Meets}
 use Rattle.pc_region.proofs.Steps.{does-word, does-second, jump-plan, second}

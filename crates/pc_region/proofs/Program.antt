@@ -26,8 +26,8 @@ no-length : (xs : List ℕ) → length xs ≡ 0 → xs ≡ []
 no-length [] h = refl
 no-length (x ∷ xs) h = absurd (omega arith)
 
-calm-is : (nest : Nesting) → length nest.links ≡ 0 → length nest.counters ≡ 0 → nest ≡ unnested
-calm-is nest h k = ap (λ l. record { links = l; counters = nest.counters }) (no-length nest.links h) ∙ ap (λ c. record { links = []; counters = c }) (no-length nest.counters k)
+unnested-is : (nest : Nesting) → length nest.links ≡ 0 → length nest.counters ≡ 0 → nest ≡ unnested
+unnested-is nest h k = ap (λ l. record { links = l; counters = nest.counters }) (no-length nest.links h) ∙ ap (λ c. record { links = []; counters = c }) (no-length nest.counters k)
 
 one-more : (xs : List ℕ) (x : ℕ) → length (xs ++ x ∷ []) ≡ length xs + 1
 one-more xs x = length-append xs (x ∷ [])
@@ -65,16 +65,15 @@ module _ (parent : ℕ → ℕ) (image : Parts) (costs : List ℕ) {Data : Type 
           (other-of (length nest.counters) 136 (λ h. omega (arith, h, ek, space.0)), λ i. room_of body (with_counter nest i) l (k + 1) a laid.1 laid.2 el (one-more nest.counters i ∙ ap (λ x. x + 1) ek) space.1 early laid.7)
       room_of (call f) nest l k a from to el ek space early laid =
           (other-of (length nest.links) 16 (λ h. omega (arith, h, el, space.1)), returns f nest early space.0 (omega (arith, el, space.1)) (omega (arith, ek, space.2)))
-      room_of (pause i) nest l k a from to el ek space early laid = calm-is nest (el ∙ space.0) (ek ∙ space.1)
+      room_of (pause i) nest l k a from to el ek space early laid = unnested-is nest (el ∙ space.0) (ek ∙ space.1)
       room_of (fork i fs) nest l k a from to el ek space early laid =
           let lowest : first_child image i ≡ laid.0 = first-is image i from s laid.0 (length fs) a laid.2 laid.1 in
-          let above : s < laid.0 = first-child parent s laid.0 (length fs) laid.4.2 laid.4.0 in
-          (
-            calm-is nest (el ∙ space.0) (ek ∙ space.1),
+          let above : s < laid.0 = first-child parent s laid.0 (length fs) laid.4.2 laid.4.0 in (
+            unnested-is nest (el ∙ space.0) (ek ∙ space.1),
             subst (λ c. AllStart parent image costs rules Represents known sizes placing c fs) (sym lowest) (all_start fs laid.0 above laid.4.1 laid.4.3),
           )
       room_of (guard j body) nest l k a from to el ek space early laid =
-          (calm-is nest (el ∙ space.0) (ek ∙ space.1), room_of body nest l k (a ++ j ∷ []) (from + 1) laid.0 el ek space.2 early laid.2)
+          (unnested-is nest (el ∙ space.0) (ek ∙ space.1), room_of body nest l k (a ++ j ∷ []) (from + 1) laid.0 el ek space.2 early laid.2)
 
       all_room_of : (nodes : Nodes) (nest : Nesting) (l k : ℕ) (a : List ℕ) (from to : ℕ) → length nest.links ≡ l → length nest.counters ≡ k → HaveRoom placing nodes l k → AreEarlier below nodes → LaidAll parent image known weak HasSteps HasTest placing s nodes a from to →
           RoomAll parent image costs rules Represents known sizes placing nodes nest

@@ -20,7 +20,7 @@ use Rattle.pc_region.specs.Law.{unnested, placed, turning, Meets, ThreadMeets, R
 use Rattle.pc_region.proofs.Steps.{finish-step}
 use Rattle.pc_region.proofs.Calling.{first-is}
 use Rattle.pc_region.proofs.Paths.{more, after_step, go_on_to, at_once, same_target, halts_more, meets_more, meets_then, meets_jump}
-use Rattle.pc_region.proofs.Groups.{Lawful, up-caught, restale}
+use Rattle.pc_region.proofs.Groups.{Lawful, rested-caught, restale}
 use Rattle.pc_region.proofs.Going.{numbers-snoc, meets_leave, meets_jobs, goes_all}
 
 module _ (parent : ℕ → ℕ) (image : Parts) (costs : List ℕ) {Data : Type 0} (rules : Rules Data) (Represents : Data → FlowState → Type 0) where
@@ -38,7 +38,7 @@ module _ (parent : ℕ → ℕ) (image : Parts) (costs : List ℕ) {Data : Type 
       more image costs rules Represents _ d _ later v (max (u + 1) v) (omega arith) (
       same_target image costs rules Represents _ d _ _ later v (λ q. ap (placed image unnested context e q) handler) (
       restale parent image costs rules Represents context e (line image j).handler good _ d later v (
-      same_target image costs rules Represents _ d _ _ later v (λ q. ap (turning image) (up-caught image r context e (watch image j true true) h.tree refl h.stands)) h.comes
+      same_target image costs rules Represents _ d _ _ later v (λ q. ap (turning image) (rested-caught image r context e (watch image j true true) h.tree refl h.stands)) h.comes
       )
       )
       )

@@ -1,7 +1,6 @@
 -- Where a tree stands, each of its slots does.
-use Rattle.std.proofs.Common.{◌≡◌, ℕ, ◌+◌, ◌++◌, ◌==◌, ◌||◌, Bool, true, false, List, [], ◌∷◌, Some, None, refl, sym, ap, ◌∙◌, subst, arith, add-zero, eq-eqb}
-use Rattle.mb_pfu.specs.declared.parts.Slot.{Slot}
-use Rattle.mb_pfu.specs.declared.parts.Slot.TheVariants.{Free, Paused, Waiting, Ended}
+use Rattle.std.proofs.Common.{◌≡◌, ℕ, ◌+◌, ◌++◌, ◌==◌, ◌||◌, true, false, List, [], ◌∷◌, Some, refl, sym, ap, ◌∙◌, subst, arith, add-zero, eq-eqb}
+use Rattle.mb_pfu.specs.declared.parts.Slot.TheVariants.{Waiting, Ended}
 use Rattle.mb_pfu.specs.declared.parts.Watch.{Watch}
 use Rattle.mb_pfu.specs.Rows.{numbered}
 use Rattle.mb_pfu.specs.Tree.{Tree, Group, Leaf, Waits, no_more, member, Activity, Pausing, Finished, slot_of_activity, size, append_group, is_in, is_among, report, reported_state, slot_of}

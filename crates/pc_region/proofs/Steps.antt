@@ -6,7 +6,7 @@ use Rattle.mb_isa.specs.declared.Instr.TheVariants.{Bri, Eot, End, Abrt, Leave}
 use Rattle.mb_isa.specs.declared.Class.{Class}
 use Rattle.mb_isa.specs.declared.Class.TheVariants as class
 use Rattle.mb_isa.specs.Costs.{cost_of}
-use Rattle.mb_isa.specs.Operands.{immediate, is_good, word_at_byte, branch_byte, branch_place}
+use Rattle.mb_isa.specs.Operands.{immediate, word_at_byte, branch_place}
 use Rattle.mb_pfu.specs.declared.TrapKind.TheVariants.{WrongPlace}
 use Rattle.std.specs.List.{list_any}
 use Rattle.mb_pfu.specs.declared.parts.Watch.{Watch}

@@ -147,47 +147,47 @@ module _ (image : Parts) where
 
   module _ (fires : ℕ → Bool) where
     mutual
-      pub woken-tested : (r : Rest) (e : List Watch) → all_woken (answered image fires e r) ≡ woken image fires e r
-      woken-tested (at_pause i) e = refl
-      woken-tested (ahead r nodes) e = woken-tested r e
-      woken-tested (within j r) e =
+      pub woken-answered : (r : Rest) (e : List Watch) → all_woken (answered image fires e r) ≡ woken image fires e r
+      woken-answered (at_pause i) e = refl
+      woken-answered (ahead r nodes) e = woken-answered r e
+      woken-answered (within j r) e =
           let e' = e ++ watch image j true ((line image j).weak && fires j) ∷ [] in
-          cut-woken image (not ((line image j).weak) && fires j) e (line image j).handler (answered image fires e' r) (woken image fires e' r) (woken-tested r e')
-      woken-tested (group i rs) e = ap (Waits e (fork_place image i) (first_child image i)) (woken-tested_all rs)
+          cut-woken image (not ((line image j).weak) && fires j) e (line image j).handler (answered image fires e' r) (woken image fires e' r) (woken-answered r e')
+      woken-answered (group i rs) e = ap (Waits e (fork_place image i) (first_child image i)) (woken-answered_all rs)
 
-      woken-tested_all : (rs : Rests) → each_member as_they_are wakes (answered_all image fires rs) ≡ woken_all image fires rs
-      woken-tested_all nobody = refl
-      woken-tested_all (over rs) = ap (member (Leaf [] Finished)) (woken-tested_all rs)
-      woken-tested_all (going r rs) = ap (λ t. member t (each_member as_they_are wakes (answered_all image fires rs))) (woken-tested r []) ∙ ap (member (woken image fires [] r)) (woken-tested_all rs)
+      woken-answered_all : (rs : Rests) → each_member as_they_are wakes (answered_all image fires rs) ≡ woken_all image fires rs
+      woken-answered_all nobody = refl
+      woken-answered_all (over rs) = ap (member (Leaf [] Finished)) (woken-answered_all rs)
+      woken-answered_all (going r rs) = ap (λ t. member t (each_member as_they_are wakes (answered_all image fires rs))) (woken-answered r []) ∙ ap (member (woken image fires [] r)) (woken-answered_all rs)
 
     mutual
-      pub tested-undue : (r : Rest) (k : ℕ) (e : List Watch) → any_due e ≡ false → is_in due k (answered image fires e r) ≡ false
-      tested-undue (at_pause i) k e q = q
-      tested-undue (ahead r nodes) k e q = tested-undue r k e q
-      tested-undue (within j r) k e q =
+      pub answered-undue : (r : Rest) (k : ℕ) (e : List Watch) → any_due e ≡ false → is_in due k (answered image fires e r) ≡ false
+      answered-undue (at_pause i) k e q = q
+      answered-undue (ahead r nodes) k e q = answered-undue r k e q
+      answered-undue (within j r) k e q =
           let w = watch image j true ((line image j).weak && fires j) in
-          cut-undue image (not ((line image j).weak) && fires j) k e (line image j).handler (answered image fires (e ++ w ∷ []) r) q (tested-undue r k (e ++ w ∷ []) (undue-snoc e w q refl))
-      tested-undue (group i rs) k e q = rw q (tested-undue_all rs (first_child image i))
+          cut-undue image (not ((line image j).weak) && fires j) k e (line image j).handler (answered image fires (e ++ w ∷ []) r) q (answered-undue r k (e ++ w ∷ []) (undue-snoc e w q refl))
+      answered-undue (group i rs) k e q = rw q (answered-undue_all rs (first_child image i))
 
-      tested-undue_all : (rs : Rests) (k : ℕ) → is_among due k (answered_all image fires rs) ≡ false
-      tested-undue_all nobody k = refl
-      tested-undue_all (over rs) k = tested-undue_all rs (k + 1)
-      tested-undue_all (going r rs) k = rw (tested-undue r k [] refl) (tested-undue_all rs (k + 1))
+      answered-undue_all : (rs : Rests) (k : ℕ) → is_among due k (answered_all image fires rs) ≡ false
+      answered-undue_all nobody k = refl
+      answered-undue_all (over rs) k = answered-undue_all rs (k + 1)
+      answered-undue_all (going r rs) k = rw (answered-undue r k [] refl) (answered-undue_all rs (k + 1))
 
     module _ (parent : ℕ → ℕ) where
       mutual
-        tested-fit : (r : Rest) (k : ℕ) (e e' : List Watch) → Fits parent k (asking image e r) → Fits parent k (answered image fires e' r)
-        tested-fit (at_pause i) k e e' h = tt
-        tested-fit (ahead r nodes) k e e' h = tested-fit r k e e' h
-        tested-fit (within j r) k e e' h =
+        answered-fit : (r : Rest) (k : ℕ) (e e' : List Watch) → Fits parent k (asking image e r) → Fits parent k (answered image fires e' r)
+        answered-fit (at_pause i) k e e' h = tt
+        answered-fit (ahead r nodes) k e e' h = answered-fit r k e e' h
+        answered-fit (within j r) k e e' h =
             let w = watch image j true ((line image j).weak && fires j) in
-            cut-fit image parent (not ((line image j).weak) && fires j) k e' (line image j).handler (answered image fires (e' ++ w ∷ []) r) (tested-fit r k (e ++ asked image j ∷ []) (e' ++ w ∷ []) h)
-        tested-fit (group i rs) k e e' h = tested-fit_all rs k (first_child image i) h
+            cut-fit image parent (not ((line image j).weak) && fires j) k e' (line image j).handler (answered image fires (e' ++ w ∷ []) r) (answered-fit r k (e ++ asked image j ∷ []) (e' ++ w ∷ []) h)
+        answered-fit (group i rs) k e e' h = answered-fit_all rs k (first_child image i) h
 
-        tested-fit_all : (rs : Rests) (k c : ℕ) → FitsGroup parent k c (asking_all image rs) → FitsGroup parent k c (answered_all image fires rs)
-        tested-fit_all nobody k c h = tt
-        tested-fit_all (over rs) k c h = (h.0, tt, tested-fit_all rs k (c + 1) h.2)
-        tested-fit_all (going r rs) k c h = (h.0, tested-fit r c [] [] h.1, tested-fit_all rs k (c + 1) h.2)
+        answered-fit_all : (rs : Rests) (k c : ℕ) → FitsGroup parent k c (asking_all image rs) → FitsGroup parent k c (answered_all image fires rs)
+        answered-fit_all nobody k c h = tt
+        answered-fit_all (over rs) k c h = (h.0, tt, answered-fit_all rs k (c + 1) h.2)
+        answered-fit_all (going r rs) k c h = (h.0, answered-fit r c [] [] h.1, answered-fit_all rs k (c + 1) h.2)
 
 module _ (parent : ℕ → ℕ) where
   -- the entries are of no matter to where slots stand
@@ -343,7 +343,7 @@ module _ (parent : ℕ → ℕ) (image : Parts) (costs : List ℕ) {Data : Type 
         let first = asks r (frame ∷ context) [] d state (looked_at_all image fires rs ++ js) (q, quiet, past) (fl, fr.0, fr.2, fit) refl fr.1 rep (subst (λ ks. Calm ks state) (append-assoc (looked_at image fires r) (looked_at_all image fires rs) js) calm) in
         let last = between image costs rules Represents Calm (unit_with (append_group (snoc left t) (asking_all image rs))) (unit_with (append_group left (member t (asking_all image rs)))) (unit_with (append_group (snoc left t) (answered_all image fires rs))) (unit_with (append_group left (member t (answered_all image fires rs)))) first.after js (tests_in_all tests rs)
         (ap unit_with (append-snoc left t (asking_all image rs))) (ap unit_with (append-snoc left t (answered_all image fires rs))) (
-        asks_all rs (snoc left t) context e place lo first.after first.state js past fit q (among-snoc lo left t quiet (tested-undue image fires r (lo + size left) [] refl))
-        (fit-snoc parent (middle context) left lo t fl fr.0 (tested-fit image fires parent r (lo + size left) [] [] fr.1)) (subst (λ k. FitsGroup parent (middle context) k (asking_all image rs)) n fr.2) first.represents first.calm
+        asks_all rs (snoc left t) context e place lo first.after first.state js past fit q (among-snoc lo left t quiet (answered-undue image fires r (lo + size left) [] refl))
+        (fit-snoc parent (middle context) left lo t fl fr.0 (answered-fit image fires parent r (lo + size left) [] [] fr.1)) (subst (λ k. FitsGroup parent (middle context) k (asking_all image rs)) n fr.2) first.represents first.calm
         ) in
         both image costs rules Represents Calm (unit_with (append_group left (member (asking image [] r) (asking_all image rs)))) (unit_with (append_group left (member t (asking_all image rs)))) (unit_with (append_group left (member t (answered_all image fires rs)))) d (looked_at_all image fires rs ++ js) js (tests_in tests r) (tests_in_all tests rs) (tests_in tests r + tests_in_all tests rs) (omega arith) first last

@@ -1,5 +1,5 @@
 -- Whole ticks do what a program means.
-use Rattle.std.proofs.Common.{◌≡◌, ℕ, suc, ◌+◌, ◌≤◌, max, nat_lt, Bool, false, if◌then◌else◌, List, [], None, refl, sym, ap, ◌∙◌, subst, arith, ◌++◌, ◌∷◌}
+use Rattle.std.proofs.Common.{◌≡◌, ℕ, suc, ◌+◌, ◌≤◌, nat_lt, Bool, false, if◌then◌else◌, List, [], None, refl, sym, ap, ◌∙◌, subst, arith, ◌++◌, ◌∷◌}
 use Rattle.mb_isa.specs.Costs.{IsCosts}
 use Rattle.mb_pfu.specs.Rows.{due, reported_test}
 use Rattle.mb_pfu.specs.Tree.{Tree, Leaf, Running, report, next_test, tests_begun, Finished}
@@ -26,7 +26,7 @@ use Rattle.pc_region.specs.Tests.{asking, answered, looked_at, tests_in, Says}
 use Rattle.pc_region.specs.Ticks.{Ticks, FirstTick, LaterTick}
 use Rattle.pc_region.proofs.Paths.{at_once}
 use Rattle.pc_region.proofs.Turns.{ends_whole, path-most, turns-are-right}
-use Rattle.pc_region.proofs.Tests.{asks, begun-stands, woken-tested, tested-undue, any-fit, unit_of}
+use Rattle.pc_region.proofs.Tests.{asks, begun-stands, woken-answered, answered-undue, any-fit, unit_of}
 
 not-late : (n most : ℕ) → n ≤ most → nat_lt most n ≡ false
 not-late n most h = grind arith
@@ -102,8 +102,8 @@ module _ (parent : ℕ → ℕ) (image : Parts) (costs : List ℕ) {Data : Type 
         let a = asks parent image costs rules Represents Calm fires tests conditions r [] [] d state [] tt tt refl own rep (subst (λ ks. Calm ks state) (sym (append-none (looked_at image fires r))) calm) in
         let to = answered image fires [] r in
         let first = unit_of image (asking image [] r) in
-        let none : next_test to ≡ None = no-test to (none-there (report due 0 to) (sym (is_in-report due 0 to) ∙ tested-undue image fires r 0 [] refl)) in
-        let turns : tests_on (unit_of image to) ≡ turning image (woken image fires [] r) = ap (tests_from (unit_of image to)) none ∙ ap (turning image) (woken-tested image fires r []) in
+        let none : next_test to ≡ None = no-test to (none-there (report due 0 to) (sym (is_in-report due 0 to) ∙ answered-undue image fires r 0 [] refl)) in
+        let turns : tests_on (unit_of image to) ≡ turning image (woken image fires [] r) = ap (tests_from (unit_of image to)) none ∙ ap (turning image) (woken-answered image fires r []) in
         let path : Steps rules image costs (tests_on first) (samples_on rules first d) a.charge a.count (turning image (woken image fires [] r)) (rules.sampled a.after) =
         subst (λ c. Steps rules image costs (tests_on first) (samples_on rules first d) a.charge a.count c (rules.sampled a.after)) turns
         (subst (λ o. Steps rules image costs (tests_on first) (samples_on rules first d) a.charge a.count (tests_on (unit_of image to)) (samples_from rules o a.after)) none a.steps) in

@@ -14,7 +14,7 @@ use Rattle.mb_pfu.proofs.Laws as unit_laws
 use Rattle.pt_image.specs.declared.Parts.{Parts}
 use Rattle.mb_step.specs.Control.{Control, Resting, turns_from}
 use Rattle.mb_step.specs.Words.{Plan, Rest as RestPlan, Refuse, Go, Work, Branch, Conclude, plan}
-use Rattle.mb_step.specs.Step.{Rules, Stepped, Moves, Rests, Traps, Undecided, worked, led, decided, branched, concluded, stepped, step}
+use Rattle.mb_step.specs.Step.{Rules, Stepped, Moves, Rests, Traps, Undecided, worked, decided, branched, concluded, stepped, step}
 use Rattle.mb_step.specs.Tick.{Ends as TickEnds, run as tick_run, Steps, still, onward}
 use Rattle.mb_step.proofs.Turning.{goes_on, is_over}
 use Rattle.pc_ir.specs.Flow.{Step, Test, Node, End, Through, Halted, state_of, flow_at, again, flows_of, State as FlowState}

@@ -1,5 +1,5 @@
 -- Straight words and branches do to any data what they do.
-use Rattle.std.proofs.Common.{not, ◌≡◌, ℕ, ℤ, suc, ◌+◌, ◌*◌, ◌/◌, ◌<◌, ◌≤◌, Bool, true, false, if◌then◌else◌, List, [], ◌∷◌, length, Option, Some, None, refl, ap, ◌∙◌, subst, arith}
+use Rattle.std.proofs.Common.{not, ◌≡◌, ℕ, ℤ, suc, ◌+◌, ◌≤◌, Bool, true, false, if◌then◌else◌, List, [], ◌∷◌, Option, Some, None, refl, ap, ◌∙◌, subst, arith}
 use Rattle.mb_isa.specs.declared.Instr.{Instr}
 use Rattle.mb_isa.specs.declared.Instr.TheVariants.{Imm}
 use Rattle.mb_isa.specs.declared.Class.TheVariants as class
@@ -125,14 +125,14 @@ module _ (image : Parts) (costs : List ℕ) {Data : Type 0} (rules : Rules Data)
         Laws image costs rules Represents sizes (HasSteps image writing) (HasTest image writing)
     laws_of words test_words = record {
       steps = λ p from to s u d state has rep.
-          let f = facts.steps p d state rep in
-          comes _ d _ f.0 (run p state) (words_in (writing.words_of p)) (sizes.words p) (words p) (ops-come image costs rules (writing.words_of p) from to (Turn s) u d f.0 has f.1) f.2;
+          let f = facts.steps p d state has.0 rep in
+          comes _ d _ f.0 (run p state) (words_in (writing.words_of p)) (sizes.words p) (words p) (ops-come image costs rules (writing.words_of p) from to (Turn s) u d f.0 has.1 f.1) f.2;
       test = λ t from inner out s u d state has rep.
           let n = words_in (writing.test_words_of t) in
-          let f = facts.test t d state rep in
-          let g = facts.taken t d f.0 state rep f.1 in
-          let a = ops-come image costs rules (writing.test_words_of t) from has.0 (Turn s) u d f.0 has.1 f.1 in
-          let b = branch-comes image costs rules (writing.branch_of t) has.0 inner out (Turn s) u f.0 g.0 (not (decides t state)) has.2 g.1 in
+          let f = facts.test t d state has.1 rep in
+          let g = facts.taken t d f.0 state has.1 rep f.1 in
+          let a = ops-come image costs rules (writing.test_words_of t) from has.0 (Turn s) u d f.0 has.2 f.1 in
+          let b = branch-comes image costs rules (writing.branch_of t) has.0 inner out (Turn s) u f.0 g.0 (not (decides t state)) has.3 g.1 in
           comes _ d _ g.0 (tested t state) (n + 2) (sizes.test_words t) (test_words t) (
           along image costs rules _ (goes (Turn s) has.0 u) _ d f.0 g.0 n 2 (n + 2) (omega arith) a (turned image costs rules (decides t state) s has.0 inner out u f.0 g.0 b)
           ) g.2;
@@ -142,13 +142,13 @@ module _ (image : Parts) (costs : List ℕ) {Data : Type 0} (rules : Rules Data)
     pub says_of : (Calm : List ℕ → FlowState → Type 0) (j : ℕ) (t : Test) (js : List ℕ) (u : UnitState) (d : Data) (state : FlowState) → HasCondition image writing t (line image j).cond → Represents d state → Calm js (tested t state) →
         Says image costs rules Represents Calm j (decides t state) js u d (words_in (writing.test_words_of t) + 1)
     says_of Calm j t js u d state has rep calm =
-        let f = facts.test t d state rep in
-        let g = facts.holds t d f.0 state rep f.1 in
-        let r = ops-come image costs rules (writing.test_words_of t) (line image j).cond has.0 Condition u d f.0 has.1 f.1 in
+        let f = facts.test t d state has.1 rep in
+        let g = facts.holds t d f.0 state has.1 rep f.1 in
+        let r = ops-come image costs rules (writing.test_words_of t) (line image j).cond has.0 Condition u d f.0 has.2 f.1 in
         record {
           place = has.0;
           ra = writing.register_of t;
-          stands = has.2;
+          stands = has.3;
           between = f.0;
           charge = r.charge;
           count = r.count;

@@ -1,10 +1,10 @@
 -- What it says that the ticks of an image are those of a flow.
-use Rattle.std.specs.Prelude.{◌≡◌, ℕ, ℤ, ◌+◌, ◌*◌, ◌<◌, ◌≤◌, Bool, List, [], length}
+use Rattle.std.specs.Prelude.{◌≡◌, ℕ, ℤ, ◌+◌, ◌*◌, ◌<◌, ◌≤◌, List, [], length}
 use Rattle.mb_pfu.specs.Tree.{Tree, Leaf, Running, Finished}
 use Rattle.pt_image.specs.declared.Parts.{Parts}
 use Rattle.mb_step.specs.Step.{Rules}
 use Rattle.mb_step.specs.Tick.{Ends as TickEnds, base_of, tick}
-use Rattle.pc_ir.specs.Flow.{State, Step, Test, decides, tested, Node, Rest, Flow, abort_at, is_weak, Position, Fresh, Waits, Stopped, Point, point_of, goes, sampled}
+use Rattle.pc_ir.specs.Flow.{State, Step, Test, decides, tested, Flow, abort_at, is_weak, Position, Fresh, Waits, Stopped, point_of, goes, sampled}
 use Rattle.pc_ir.specs.Residuals.{body_at, Of}
 use Rattle.pc_region.specs.Slots.{Fits}
 use Rattle.pc_region.specs.Places.{slot_start, line}
@@ -14,7 +14,7 @@ use Rattle.pc_region.specs.Law.{unnested, unit_at}
 use Rattle.pc_region.specs.Counts.{Sizes, tick_in}
 use Rattle.pc_region.specs.Program.{IsCompiled}
 use Rattle.pc_region.specs.Tests.{tests_in}
-use Rattle.pc_region.specs.Words.{Writing, words_in, HasSteps, HasTest, HasCondition, DataLaws}
+use Rattle.pc_region.specs.Words.{Writing, words_in, HasSteps, HasTest, HasCondition}
 
 -- a test changes no cell, and the cells alone decide it
 abbrev pub IsQuiet : Test → Type 0
@@ -28,10 +28,12 @@ abbrev pub condition_words : Writing → Flow → ℕ → ℕ
 condition_words writing f j = words_in (writing.test_words_of (condition_of f j)) + 1
 
 -- The image is that of a flow: its functions and its conditions stand in it, and the sizes count their words.
-pub record IsImageOf (parent : ℕ → ℕ) (image : Parts) (costs : List ℕ) (f : Flow) (writing : Writing) (sizes : Sizes) (placing : Placing) : Type 0 where
-  pub compiled : IsCompiled parent image costs f.bodies (is_weak f.aborts) sizes (HasSteps image writing) (HasTest image writing) placing f.main
+pub record IsImageOf (parent : ℕ → ℕ) (image : Parts) (costs : List ℕ) (f : Flow) (writing : Writing) (sizes : Sizes)
+    (placing : Placing) : Type 0 where
+  pub compiled :
+      IsCompiled parent image costs f.bodies (is_weak f.aborts) sizes (HasSteps image writing) (HasTest image writing) placing f.main
   pub conditions : (j : ℕ) → j < length image.aborts → HasCondition image writing (condition_of f j) (line image j).cond
-  pub quiet : (j : ℕ) → IsQuiet (condition_of f j)
+  pub quiet : (j : ℕ) → j < length image.aborts → IsQuiet (condition_of f j)
   pub words : (p : List Step) → words_in (writing.words_of p) ≤ sizes.words p
   pub test_words : (t : Test) → words_in (writing.test_words_of t) + 2 ≤ sizes.test_words t
 
@@ -62,4 +64,5 @@ module _ (parent : ℕ → ℕ) (image : Parts) (f : Flow) where
     pub charge : ℕ
     pub within : charge ≤ 255 * most
     pub runs : (limit : ℕ) → base_of image costs + charge ≤ limit →
-        tick rules image costs limit (unit_at image unnested from) d ≡ TickEnds (base_of image costs + charge) (unit_at image unnested tree) after
+        tick rules image costs limit (unit_at image unnested from) d
+        ≡ TickEnds (base_of image costs + charge) (unit_at image unnested tree) after

@@ -2,7 +2,7 @@
 use Rattle.std.specs.Prelude.{◌≡◌, ℕ, ◌+◌, ◌<◌, ◌≤◌, ◌++◌, length, Bool, List, [], ◌∷◌, Option, Some, None, slice_get}
 use Rattle.mb_isa.specs.declared.Instr.TheVariants.{Fork, Eot, Abrt, Leave, Call, Next, Drop}
 use Rattle.pt_image.specs.declared.Parts.{Parts}
-use Rattle.pc_ir.specs.Flow.{State, Step, Test, Node, Nodes, straight, sequence, branch, turns, bounded, call, pause, fork, guard, no_nodes, and, Rest, End, Through, Halted, state_of, Flows, go}
+use Rattle.pc_ir.specs.Flow.{State, Step, Test, Node, Nodes, straight, sequence, branch, turns, bounded, call, pause, fork, guard, no_nodes, and, Rest, Through, Halted, state_of, Flows, go}
 use Rattle.pc_region.specs.Slots.{AreChildren, Runs}
 use Rattle.pc_region.specs.Places.{Has, HasJump, HasLoop}
 
@@ -26,7 +26,8 @@ module _ (known : Flows) where
   abbrev pub Passes : Node → Type 0
   Passes n = (w : State) → go known n w ≡ Through (state_of (go known n w))
 
-module _ (parent : ℕ → ℕ) (image : Parts) (known : Flows) (weak : ℕ → Bool) (HasSteps : List Step → ℕ → ℕ → Type 0) (HasTest : Test → ℕ → ℕ → ℕ → Type 0) (placing : Placing) where
+module _ (parent : ℕ → ℕ) (image : Parts) (known : Flows) (weak : ℕ → Bool)
+    (HasSteps : List Step → ℕ → ℕ → Type 0) (HasTest : Test → ℕ → ℕ → ℕ → Type 0) (placing : Placing) where
   -- the test of a loop goes on to `inner` where it holds, and else to `out`; without a test there are no words
   abbrev pub HasOption : Option Test → (from inner out : ℕ) → Type 0
   HasOption None from inner out = from ≡ inner
@@ -45,7 +46,8 @@ module _ (parent : ℕ → ℕ) (image : Parts) (known : Flows) (weak : ℕ → 
   module _ (s : ℕ) where
     -- a fork of these functions starts slots of its own, which are there
     abbrev pub HasChildren : ℕ → List ℕ → Type 0
-    HasChildren lo fs = (1 ≤ length fs) × (lo + length fs ≤ length image.slots) × AreChildren parent s lo (length fs) × Runs placing.thread lo fs
+    HasChildren lo fs =
+        (1 ≤ length fs) × (lo + length fs ≤ length image.slots) × AreChildren parent s lo (length fs) × Runs placing.thread lo fs
 
     -- a node's words stand from a place to another, inside these aborts, the outermost first
     abbrev mutual

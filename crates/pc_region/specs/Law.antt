@@ -80,12 +80,14 @@ module _ (parent : ℕ → ℕ) (image : Parts) (costs : List ℕ) {Data : Type 
 
   -- how a node ends: in so many steps to its end, or to rest
   abbrev pub Meets : Nesting → Context → List Watch → ℕ → Control → Data → (u v : ℕ) → End → Type 0
-  Meets nest context e to c d u v (Through state) = Comes image costs rules Represents c d (λ stale. placed image nest context e stale to) state u
+  Meets nest context e to c d u v (Through state) =
+      Comes image costs rules Represents c d (λ stale. placed image nest context e stale to) state u
   Meets nest context e to c d u v (Halted r state) = Halts c d context e r state v
 
   -- how a thread ends
   abbrev pub ThreadMeets : Context → Control → Data → ℕ → End → Type 0
-  ThreadMeets context c d u (Through state) = Comes image costs rules Represents c d (λ stale. turning image (climb context (Leaf [] Finished))) state u
+  ThreadMeets context c d u (Through state) =
+      Comes image costs rules Represents c d (λ stale. turning image (climb context (Leaf [] Finished))) state u
   ThreadMeets context c d u (Halted r state) = Halts c d context [] r state u
 
   -- slot c with this tree does what is meant, whatever is round it
@@ -122,7 +124,8 @@ module _ (parent : ℕ → ℕ) (image : Parts) (costs : List ℕ) {Data : Type 
     -- a routine does what it means and comes back, whoever calls it
     abbrev pub Returns : ℕ → Nesting → Type 0
     Returns f nest =
-        (back : ℕ) (context : Context) (e : List Watch) (stale : ℕ) (d : Data) (state : State) → IsGood parent context → Represents d state →
+        (back : ℕ) (context : Context) (e : List Watch) (stale : ℕ) (d : Data) (state : State) →
+        IsGood parent context → Represents d state →
         Comes image costs rules Represents (placed image (with_link nest back) context e stale (placing.entrance f)) d
         (λ q. placed image nest context e q back) (state_of (flow_at known f state)) (sizes.routines f)
 
@@ -151,11 +154,13 @@ pub record Laws (image : Parts) (costs : List ℕ) {Data : Type 0} (rules : Rule
   pub steps : (p : List Step) (from to s : ℕ) (u : UnitState) (d : Data) (state : State) → HasSteps p from to → Represents d state →
       Comes image costs rules Represents (goes (Turn s) from u) d (λ q. goes (Turn s) to u) (run p state) (sizes.words p)
   pub test : (t : Test) (from inner out s : ℕ) (u : UnitState) (d : Data) (state : State) → HasTest t from inner out → Represents d state →
-      Comes image costs rules Represents (goes (Turn s) from u) d (λ q. goes (Turn s) (if decides t state then inner else out) u) (tested t state) (sizes.test_words t)
+      Comes image costs rules Represents (goes (Turn s) from u) d
+      (λ q. goes (Turn s) (if decides t state then inner else out) u) (tested t state) (sizes.test_words t)
 
 -- the words of a function stand from the start of slot c to an `end`, with all that it calls and starts
-pub record IsPart (parent : ℕ → ℕ) (image : Parts) (costs : List ℕ) {Data : Type 0} (rules : Rules Data) (Represents : Data → State → Type 0)
-    (known : Flows) (weak : ℕ → Bool) (sizes : Sizes) (HasSteps : List Step → ℕ → ℕ → Type 0) (HasTest : Test → ℕ → ℕ → ℕ → Type 0) (placing : Placing)
+pub record IsPart (parent : ℕ → ℕ) (image : Parts) (costs : List ℕ) {Data : Type 0} (rules : Rules Data)
+    (Represents : Data → State → Type 0) (known : Flows) (weak : ℕ → Bool) (sizes : Sizes)
+    (HasSteps : List Step → ℕ → ℕ → Type 0) (HasTest : Test → ℕ → ℕ → ℕ → Type 0) (placing : Placing)
     (body : Node) (c : ℕ) : Type 0 where
   pub stop : ℕ
   pub laid : Laid parent image known weak HasSteps HasTest placing c body [] (slot_start image c) stop

@@ -1,5 +1,5 @@
 -- The laws of this crate, at the machine's data.
-use Rattle.std.specs.Prelude.{◌≡◌, ℕ, ℤ, Bool, false, IsTrue, List, []}
+use Rattle.std.specs.Prelude.{ℕ, ℤ, Bool, IsTrue, List, []}
 use Rattle.mb_pfu.specs.Tree.{Tree}
 use Rattle.pt_image.specs.declared.Parts.{Parts}
 use Rattle.mb_step.specs.Cells.{Cells, machine}
@@ -24,8 +24,10 @@ TicksAreThoseOfTheFlow =
     IsImageOf parent image costs f writing sizes placing →
     DataLaws (machine image row) (Agree compared) (sampled f row) writing →
     (p : Position) (before : State) (from : Tree) (d : Cells) (stands : StandsAt parent image f p from) → Agree compared d before →
-    TickIs parent image f costs (machine image row) (Agree compared) row p before from d (steps_at parent image f writing sizes p from stands)
+    TickIs parent image f costs (machine image row) (Agree compared) row p before from d
+    (steps_at parent image f writing sizes p from stands)
 
 -- Where a tree is where a residual stands, each slot has the state that the residual gives it, and all others are free.
 abbrev pub SlotsStandAsTheResidual : Type 0
-SlotsStandAsTheResidual = (parent : ℕ → ℕ) (image : Parts) (r : Rest) (t : Tree) → Stands image [] r t → Fits parent 0 t → StandsSlotwise image r t
+SlotsStandAsTheResidual =
+    (parent : ℕ → ℕ) (image : Parts) (r : Rest) (t : Tree) → Stands image [] r t → Fits parent 0 t → StandsSlotwise image r t

@@ -72,10 +72,12 @@ LeadsTo image place upper lower to = (branch_byte place (immediate upper lower) 
 
 -- a jump from a place to another, of two words or of one, and the place behind it
 pub data HasJump (image : Parts) (at next to : ℕ) : Type 0 where
-  wide : (upper lower : ℤ) → Has image at (Imm upper) → Has image (at + 1) (Bri lower) → LeadsTo image (at + 1) (Some upper) lower to → at + 2 ≡ next → HasJump image at next to
+  wide : (upper lower : ℤ) → Has image at (Imm upper) → Has image (at + 1) (Bri lower) →
+      LeadsTo image (at + 1) (Some upper) lower to → at + 2 ≡ next → HasJump image at next to
   short : (lower : ℤ) → Has image at (Bri lower) → LeadsTo image at None lower to → at + 1 ≡ next → HasJump image at next to
 
 -- the opening of a loop of so many turns, of two words or of one, and the place behind it
 pub data HasLoop (image : Parts) (most at next : ℕ) : Type 0 where
-  wide_loop : (upper : ℤ) (n : ℕ) → Has image at (Imm upper) → Has image (at + 1) (Loop n) → turns_of (Some upper) n ≡ most → at + 2 ≡ next → HasLoop image most at next
+  wide_loop : (upper : ℤ) (n : ℕ) → Has image at (Imm upper) → Has image (at + 1) (Loop n) →
+      turns_of (Some upper) n ≡ most → at + 2 ≡ next → HasLoop image most at next
   short_loop : Has image at (Loop most) → at + 1 ≡ next → HasLoop image most at next

@@ -4,7 +4,7 @@ use Rattle.std.specs.List.{AllByRecursion}
 use Rattle.mb_isa.specs.declared.Instr.TheVariants.{End as EndWord, Ret}
 use Rattle.mb_isa.specs.Costs.{IsCosts}
 use Rattle.pt_image.specs.declared.Parts.{Parts}
-use Rattle.pc_ir.specs.Flow.{Step, Test, Node, Nodes, straight, sequence, branch, turns, bounded, call, pause, fork, guard, no_nodes, and, Flows, flows_of}
+use Rattle.pc_ir.specs.Flow.{Step, Test, Node, Nodes, straight, sequence, branch, turns, bounded, call, pause, fork, guard, no_nodes, and, flows_of}
 use Rattle.pc_ir.specs.Residuals.{body_at}
 use Rattle.pc_region.specs.Places.{slot_start, Has}
 use Rattle.pc_region.specs.Laid.{Placing, Passes, Laid}
@@ -66,7 +66,8 @@ module _ (parent : ℕ → ℕ) (image : Parts) (costs : List ℕ) (bodies : Lis
   pub record IsRoutine (f : ℕ) : Type 0 where
     pub passes : Passes (flows_of bodies) (body_at bodies f)
     pub stop : ℕ
-    pub laid : (s : ℕ) (a : List ℕ) → Laid parent image (flows_of bodies) weak HasSteps HasTest placing s (body_at bodies f) a (placing.entrance f) stop
+    pub laid : (s : ℕ) (a : List ℕ) →
+        Laid parent image (flows_of bodies) weak HasSteps HasTest placing s (body_at bodies f) a (placing.entrance f) stop
     pub stops : Has image stop Ret
     pub room : (l k : ℕ) → 1 ≤ l → l + placing.links f ≤ 16 → k + placing.counters f ≤ 136 → HasRoom placing (body_at bodies f) l k
     pub bound : through sizes (body_at bodies f) + 1 ≤ sizes.routines f

@@ -1,5 +1,5 @@
 -- The same, slot by slot: which state each slot has that a residual stands in.
-use Rattle.std.specs.Prelude.{◌≡◌, ℕ, zero, suc, ◌+◌, ◌==◌, ◌||◌, Bool, false}
+use Rattle.std.specs.Prelude.{◌≡◌, ℕ, ◌+◌, ◌==◌, ◌||◌, Bool, false}
 use Rattle.mb_pfu.specs.declared.parts.Slot.TheVariants.{Free, Paused, Waiting, Ended}
 use Rattle.mb_pfu.specs.Tree.{Tree, slot_of}
 use Rattle.pt_image.specs.declared.Parts.{Parts}

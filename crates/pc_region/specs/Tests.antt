@@ -108,7 +108,8 @@ module _ (tests : ℕ → ℕ) where
     tests_in_all (going r rs) = tests_in r + tests_in_all rs
 
 -- `Calm js state` is what conditions keep: those of js are still to come
-module _ (image : Parts) (costs : List ℕ) {Data : Type 0} (rules : Rules Data) (Represents : Data → State → Type 0) (Calm : List ℕ → State → Type 0) where
+module _ (image : Parts) (costs : List ℕ) {Data : Type 0} (rules : Rules Data) (Represents : Data → State → Type 0)
+    (Calm : List ℕ → State → Type 0) where
   -- a condition runs to its `cend`, and says whether its abort fires
   pub record Says (j : ℕ) (fires : Bool) (js : List ℕ) (u : UnitState) (d : Data) (most : ℕ) : Type 0 where
     pub place : ℕ

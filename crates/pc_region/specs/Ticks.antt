@@ -4,7 +4,7 @@ use Rattle.mb_pfu.specs.Tree.{Tree, Leaf, Running}
 use Rattle.pt_image.specs.declared.Parts.{Parts}
 use Rattle.mb_step.specs.Step.{Rules}
 use Rattle.mb_step.specs.Tick.{Ends as TickEnds, base_of, tick}
-use Rattle.pc_ir.specs.Flow.{State, Node, Rest, End, state_of, Flows, flow_at, flows_of, again}
+use Rattle.pc_ir.specs.Flow.{State, Node, Rest, End, state_of, flow_at, flows_of, again}
 use Rattle.pc_ir.specs.Residuals.{body_at, Of}
 use Rattle.pc_region.specs.Slots.{Fits}
 use Rattle.pc_region.specs.Places.{slot_start}
@@ -24,7 +24,8 @@ module _ (parent : ℕ → ℕ) (image : Parts) (costs : List ℕ) {Data : Type 
     pub within : charge ≤ 255 * u
     pub represents : Represents after (state_of o)
     pub runs : (most : ℕ) → base_of image costs + charge ≤ most →
-        tick rules image costs most (unit_at image unnested from) d ≡ TickEnds (base_of image costs + charge) (unit_at image unnested tree) after
+        tick rules image costs most (unit_at image unnested from) d
+        ≡ TickEnds (base_of image costs + charge) (unit_at image unnested tree) after
 
   module _ (bodies : List Node) (weak : ℕ → Bool) (main : ℕ) (sizes : Sizes) where
     -- the first tick starts `main`

@@ -4,7 +4,7 @@ use Rattle.mb_pfu.specs.Tree.{Tree, Leaf, Running, Finished}
 use Rattle.pt_image.specs.declared.Parts.{Parts}
 use Rattle.mb_step.specs.Step.{Rules}
 use Rattle.mb_step.specs.Tick.{Ends as TickEnds, run as tick_run}
-use Rattle.pc_ir.specs.Flow.{State, Node, Rest, End, Through, Halted, state_of, Flows, flow_at, flows_of, again}
+use Rattle.pc_ir.specs.Flow.{State, Node, Rest, End, Through, Halted, state_of, flow_at, flows_of, again}
 use Rattle.pc_ir.specs.Residuals.{body_at, Of}
 use Rattle.pc_region.specs.Slots.{Fits}
 use Rattle.pc_region.specs.Places.{slot_start}
@@ -28,7 +28,8 @@ module _ (parent : ℕ → ℕ) (image : Parts) (costs : List ℕ) {Data : Type 
     pub within : charge ≤ 255 * u
     pub represents : Represents after (state_of o)
     pub runs : (most charged fuel : ℕ) → charged + charge ≤ most → most + 1 ≤ fuel + charged →
-        tick_run rules image costs fuel most charged (turning image from) d ≡ TickEnds (charged + charge) (unit_at image unnested tree) after
+        tick_run rules image costs fuel most charged (turning image from) d
+        ≡ TickEnds (charged + charge) (unit_at image unnested tree) after
 
   module _ (bodies : List Node) (weak : ℕ → Bool) (main : ℕ) (sizes : Sizes) where
     -- the turns of each tick do what `main` means

@@ -1,5 +1,5 @@
 -- Words that the data do, and branches that they decide, with or without an `imm` before them.
-use Rattle.std.specs.Prelude.{not, ◌≡◌, ℕ, ℤ, ◌+◌, false, List, [], ◌∷◌, Option, Some, None}
+use Rattle.std.specs.Prelude.{not, ◌≡◌, ℕ, ℤ, ◌+◌, Bool, false, IsTrue, List, [], ◌∷◌, Option, Some, None}
 use Rattle.mb_isa.specs.declared.Instr.{Instr}
 use Rattle.mb_isa.specs.declared.Instr.TheVariants.{Imm, Cend}
 use Rattle.mb_isa.specs.declared.Reg.{Reg}
@@ -50,16 +50,21 @@ module _ (image : Parts) where
   abbrev pub IsTest : Option ℤ → ℤ → Instr → Type 0
   IsTest upper imm w =
       (is_barred upper w ≡ false)
-      × ((who : Who) (p : ℕ) (u : UnitState) → plan_of image who p upper u w ≡ Branch w (branched image who p upper u imm) (goes who (p + 1) u))
+      × ((who : Who) (p : ℕ) (u : UnitState) → plan_of image who p upper u w
+      ≡ Branch w (branched image who p upper u imm) (goes who (p + 1) u))
 
   -- a conditional branch of one word or two to `out`, that goes on to `inner` behind it where it isn't taken
   pub data HasBranch (word : ℤ → Instr) (at inner out : ℕ) : Type 0 where
-    wide_branch : (upper lower : ℤ) → Has image at (Imm upper) → Has image (at + 1) (word lower) → IsTest (Some upper) lower (word lower) → LeadsTo image (at + 1) (Some upper) lower out → at + 2 ≡ inner → HasBranch word at inner out
-    short_branch : (lower : ℤ) → Has image at (word lower) → IsTest None lower (word lower) → LeadsTo image at None lower out → at + 1 ≡ inner → HasBranch word at inner out
+    wide_branch : (upper lower : ℤ) → Has image at (Imm upper) → Has image (at + 1) (word lower) →
+        IsTest (Some upper) lower (word lower) → LeadsTo image (at + 1) (Some upper) lower out → at + 2 ≡ inner → HasBranch word at inner out
+    short_branch : (lower : ℤ) → Has image at (word lower) → IsTest None lower (word lower) →
+        LeadsTo image at None lower out → at + 1 ≡ inner → HasBranch word at inner out
 
--- How steps and tests are written: the words of steps; those of a test, the register that it is then in, and the branch
--- that is taken where it doesn't hold.
+-- How steps and tests are written: which of them are; the words of steps; those of a test, the register that it is then in,
+-- and the branch that is taken where it doesn't hold.
 pub record Writing : Type 0 where
+  pub is_written : List Step → Bool
+  pub is_test_written : Test → Bool
   pub words_of : List Step → List Written
   pub test_words_of : Test → List Written
   pub register_of : Test → Reg
@@ -67,25 +72,34 @@ pub record Writing : Type 0 where
 
 -- What is left to say of the data alone: the words of steps do them, those of a test decide it, for a branch and for a
 -- condition, and the inputs are sampled.
-pub record DataLaws {Data : Type 0} (rules : Rules Data) (Represents : Data → State → Type 0) (sample : State → State) (writing : Writing) : Type 0 where
-  pub steps : (p : List Step) (d : Data) (state : State) → Represents d state →
+pub record DataLaws {Data : Type 0} (rules : Rules Data) (Represents : Data → State → Type 0) (sample : State → State)
+    (writing : Writing) : Type 0 where
+  pub steps : (p : List Step) (d : Data) (state : State) → IsTrue (writing.is_written p) → Represents d state →
       (after : Data) × (does_all rules (writing.words_of p) d ≡ Some after) × Represents after (run p state)
-  pub test : (t : Test) (d : Data) (state : State) → Represents d state → (between : Data) × (does_all rules (writing.test_words_of t) d ≡ Some between)
-  pub taken : (t : Test) (d between : Data) (state : State) → Represents d state → does_all rules (writing.test_words_of t) d ≡ Some between →
-      (after : Data) × ((lower : ℤ) → rules.taken (writing.branch_of t lower) between ≡ Some (not (decides t state), after)) × Represents after (tested t state)
-  pub holds : (t : Test) (d between : Data) (state : State) → Represents d state → does_all rules (writing.test_words_of t) d ≡ Some between →
+  pub test : (t : Test) (d : Data) (state : State) → IsTrue (writing.is_test_written t) → Represents d state →
+      (between : Data) × (does_all rules (writing.test_words_of t) d ≡ Some between)
+  pub taken : (t : Test) (d between : Data) (state : State) → IsTrue (writing.is_test_written t) → Represents d state →
+      does_all rules (writing.test_words_of t) d ≡ Some between →
+      (after : Data) × ((lower : ℤ) → rules.taken (writing.branch_of t lower) between ≡ Some (not (decides t state), after))
+      × Represents after (tested t state)
+  pub holds : (t : Test) (d between : Data) (state : State) → IsTrue (writing.is_test_written t) → Represents d state →
+      does_all rules (writing.test_words_of t) d ≡ Some between →
       (after : Data) × (rules.holds (writing.register_of t) between ≡ Some (decides t state, after)) × Represents after (tested t state)
   pub sampled : (d : Data) (state : State) → Represents d state → Represents (rules.sampled d) (sample state)
 
 module _ (image : Parts) (writing : Writing) where
   -- the words of steps stand from a place to another
   abbrev pub HasSteps : List Step → (from to : ℕ) → Type 0
-  HasSteps p from to = HasWritten image (writing.words_of p) from to
+  HasSteps p from to = IsTrue (writing.is_written p) × HasWritten image (writing.words_of p) from to
 
   -- a test's words, and the branch that leads out where it doesn't hold
   abbrev pub HasTest : Test → (from inner out : ℕ) → Type 0
-  HasTest t from inner out = (mid : ℕ) × HasWritten image (writing.test_words_of t) from mid × HasBranch image (writing.branch_of t) mid inner out
+  HasTest t from inner out =
+      (mid : ℕ) × IsTrue (writing.is_test_written t) × HasWritten image (writing.test_words_of t) from mid
+      × HasBranch image (writing.branch_of t) mid inner out
 
   -- a condition's words from a place on, and its `cend`
   abbrev pub HasCondition : Test → (from : ℕ) → Type 0
-  HasCondition t from = (mid : ℕ) × HasWritten image (writing.test_words_of t) from mid × Has image mid (Cend (writing.register_of t))
+  HasCondition t from =
+      (mid : ℕ) × IsTrue (writing.is_test_written t) × HasWritten image (writing.test_words_of t) from mid
+      × Has image mid (Cend (writing.register_of t))

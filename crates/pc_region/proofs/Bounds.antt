@@ -2,8 +2,8 @@
 use Rattle.std.proofs.Common.{ℕ, ◌+◌, ◌*◌, ◌≤◌, List, mul-le-mul_right, arith}
 use Rattle.pc_ir.specs.Flow.{Node, Nodes, straight, sequence, branch, turns, bounded, call, pause, fork, guard, no_nodes, and, Rest, Rests}
 use Rattle.pc_ir.specs.Residuals.{body_at, Of, OfAll, OfThreads, of_list, of_first, of_second, of_turns, of_pause, of_guard, of_fork, of_last, of_head, of_tail, of_nobody, of_over, of_going}
-use Rattle.pc_region.specs.Counts.{Sizes, through, through_all, reach, reach_all, done_in, rest_in, done_in_all, rest_in_all, all_in, tick_in}
-use Rattle.pc_region.specs.Bounds.{span, span_all, tail_in, tail_in_all, guards_in, guards_in_all, beside_in, beside_in_all, depth, depth_all, total_of, forks_in, forks_in_all}
+use Rattle.pc_region.specs.Counts.{Sizes, total_of, through, through_all, reach, reach_all, done_in, rest_in, done_in_all, rest_in_all, all_in, tick_in}
+use Rattle.pc_region.specs.Bounds.{span, span_all, tail_in, tail_in_all, guards_in, guards_in_all, beside_in, beside_in_all, depth, depth_all, forks_in, forks_in_all}
 
 module _ (sizes : Sizes) (bodies : List Node) (most : ℕ) where
   pub record Bounded (done rest tail guards beside : ℕ) : Type 0 where
@@ -38,7 +38,7 @@ times a b m le = mul-le-mul_right m le
 
 module _ (sizes : Sizes) where
   mutual
-    through-span : (n : Node) → through sizes n ≤ span sizes n
+    pub through-span : (n : Node) → through sizes n ≤ span sizes n
     through-span (straight p) = omega arith
     through-span (sequence nodes) = through_all-span nodes
     through-span (branch t a b) = omega (arith, through-span a, through-span b)
@@ -53,8 +53,8 @@ module _ (sizes : Sizes) where
     through_all-span no_nodes = omega arith
     through_all-span (and n nodes) = omega (arith, through-span n, through_all-span nodes)
 
-module _ (sizes : Sizes) (worst : ℕ → ℕ) (bodies : List Node) (most : ℕ) (short : (f : ℕ) → reach sizes (body_at bodies f) ≤ most)
-    (wide : (f : ℕ) → span sizes (body_at bodies f) + (depth (body_at bodies f) * most + most) + forks_in worst (body_at bodies f) + 1 ≤ worst f) where
+module _ (sizes : Sizes) (worst : ℕ → ℕ) (bodies : List Node)
+    (wide : (f : ℕ) → span sizes (body_at bodies f) + (depth (body_at bodies f) * reach sizes (body_at bodies f) + reach sizes (body_at bodies f)) + forks_in worst (body_at bodies f) + 1 ≤ worst f) where
   record Small (tail guards beside u v w : ℕ) : Type 0 where
     tail_le : tail ≤ u
     guards_le : guards ≤ v
@@ -63,8 +63,8 @@ module _ (sizes : Sizes) (worst : ℕ → ℕ) (bodies : List Node) (most : ℕ)
   worst_by : (f : ℕ) (r : Rest) (o : Of bodies (body_at bodies f) r) → Small (tail_in sizes bodies (body_at bodies f) r o) (guards_in sizes bodies (body_at bodies f) r o) (beside_in sizes bodies (body_at bodies f) r o) (span sizes (body_at bodies f)) (depth (body_at bodies f)) (forks_in worst (body_at bodies f)) →
       tick_in sizes bodies (body_at bodies f) r o ≤ worst f
   worst_by f r o h =
-      let b = bounds sizes bodies most (body_at bodies f) r o (short f) in
-      let g = times (guards_in sizes bodies (body_at bodies f) r o) (depth (body_at bodies f)) most h.guards_le in
+      let b = bounds sizes bodies (reach sizes (body_at bodies f)) (body_at bodies f) r o (omega arith) in
+      let g = times (guards_in sizes bodies (body_at bodies f) r o) (depth (body_at bodies f)) (reach sizes (body_at bodies f)) h.guards_le in
       omega (arith, wide f)
 
   mutual
@@ -93,3 +93,20 @@ module _ (sizes : Sizes) (worst : ℕ → ℕ) (bodies : List Node) (most : ℕ)
   -- a tick of a whole thread, with all that runs under it
   pub worst_is : (f : ℕ) (r : Rest) (o : Of bodies (body_at bodies f) r) → tick_in sizes bodies (body_at bodies f) r o ≤ worst f
   worst_is f r o = worst_by f r o (small (body_at bodies f) r o)
+
+module _ (sizes : Sizes) where
+  mutual
+    pub reach-span : (n : Node) → reach sizes n ≤ span sizes n
+    reach-span (straight p) = omega arith
+    reach-span (sequence nodes) = reach_all-span nodes
+    reach-span (branch test a b) = omega (arith, reach-span a, reach-span b)
+    reach-span (turns test body) = omega (arith, reach-span body)
+    reach-span (bounded n test body) = omega arith
+    reach-span (call f) = omega arith
+    reach-span (pause i) = omega arith
+    reach-span (guard j body) = omega (arith, reach-span body)
+    reach-span (fork i fs) = omega arith
+
+    reach_all-span : (nodes : Nodes) → reach_all sizes nodes ≤ span_all sizes nodes
+    reach_all-span no_nodes = omega arith
+    reach_all-span (and n nodes) = omega (arith, reach-span n, through-span sizes n, reach_all-span nodes)

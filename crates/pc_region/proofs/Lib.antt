@@ -17,4 +17,8 @@ pub mod Ticks
 pub mod Words
 pub mod Image
 pub mod Bounds
+pub mod Sizing
+pub mod Threads
+pub mod Limits
 pub mod Slotwise
+pub mod Configured

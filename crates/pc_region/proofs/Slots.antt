@@ -14,7 +14,7 @@ pub other-of : (k q : ℕ) → (q ≡ k → ⊥) → (k == q) ≡ false
 other-of k q h = split (k == q) (λ e. absurd (h (same-of k q e))) (λ e. e)
 
 module _ (parent : ℕ → ℕ) where
-  under-least : (s q : ℕ) → Under parent s q → s ≤ q
+  pub under-least : (s q : ℕ) → Under parent s q → s ≤ q
   under-least s q (self {q = x} e) = omega arith
   under-least s q (deeper {q = x} l u) = omega (arith, under-least s (parent x) u)
 
@@ -22,7 +22,7 @@ module _ (parent : ℕ → ℕ) where
   under-raise k c q child (self {q = x} e) = deeper (let h : parent x ≡ parent c = ap parent e in omega (arith, h, child.0, child.1, e)) (self (ap parent e ∙ child.0))
   under-raise k c q child (deeper {q = x} l u) = deeper l (under-raise k c (parent x) child u)
 
-  apart : (k c d q : ℕ) → IsChild parent k c → IsChild parent k d → (c ≡ d → ⊥) → Under parent c q → Under parent d q → ⊥
+  pub apart : (k c d q : ℕ) → IsChild parent k c → IsChild parent k d → (c ≡ d → ⊥) → Under parent c q → Under parent d q → ⊥
   apart k c d q p r diff (self {q = x} e) (self {q = y} f) = diff (sym e ∙ f)
   apart k c d q p r diff (self {q = x} e) (deeper {q = y} l u) =
       let a : d ≤ parent y = under-least d (parent y) u in
@@ -34,21 +34,21 @@ module _ (parent : ℕ → ℕ) where
       absurd (omega (arith, a, b, r.0, p.1))
   apart k c d q p r diff (deeper {q = x} l u) (deeper {q = y} m v) = apart k c d (parent x) p r diff u v
 
-  record InGroup (k lo n q : ℕ) : Type 0 where
-    child : ℕ
-    is : IsChild parent k child
-    under : Under parent child q
-    from : lo ≤ child
-    to : child < lo + n
+  pub record InGroup (k lo n q : ℕ) : Type 0 where
+    pub child : ℕ
+    pub is : IsChild parent k child
+    pub under : Under parent child q
+    pub from : lo ≤ child
+    pub to : child < lo + n
 
   mutual
-    inside : (t : Tree) (k q : ℕ) → Fits parent k t → is_in (numbered q) k t ≡ true → Under parent k q
+    pub inside : (t : Tree) (k q : ℕ) → Fits parent k t → is_in (numbered q) k t ≡ true → Under parent k q
     inside (Leaf watches activity) k q fit h = self (same-of k q h)
     inside (Waits watches at lo group) k q fit h =
         split (k == q) (λ e. self (same-of k q e))
         (λ e. let r = inside-group group k lo q fit (rw e at h) in under-raise k r.child q r.is r.under)
 
-    inside-group : (ts : Group) (k lo q : ℕ) → FitsGroup parent k lo ts → is_among (numbered q) lo ts ≡ true → InGroup k lo (size ts) q
+    pub inside-group : (ts : Group) (k lo q : ℕ) → FitsGroup parent k lo ts → is_among (numbered q) lo ts ≡ true → InGroup k lo (size ts) q
     inside-group no_more k lo q fit h = cc
     inside-group (member t ts) k lo q fit h =
         split (is_in (numbered q) lo t)

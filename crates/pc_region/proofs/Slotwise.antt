@@ -18,7 +18,7 @@ use Rattle.pc_region.proofs.Plugs.{report-plug}
 use Rattle.pc_region.proofs.Groups.{snoc, append-snoc, size-snoc, fit-snoc}
 
 module _ (parent : ℕ → ℕ) (image : Parts) where
-  size-is : (rs : Rests) (ts : Group) → StandAll image rs ts → size ts ≡ members rs
+  pub size-is : (rs : Rests) (ts : Group) → StandAll image rs ts → size ts ≡ members rs
   size-is nobody ts h = ap size h
   size-is (over rs) ts h = ap size h.1 ∙ ap (λ n. n + 1) (size-is rs h.0 h.2)
   size-is (going r rs) ts h = ap size h.2 ∙ ap (λ n. n + 1) (size-is rs h.1 h.4)
@@ -91,7 +91,7 @@ module _ (parent : ℕ → ℕ) (image : Parts) where
 
   -- the slots of the tree are those of the residual
   mutual
-    in-is : (q k : ℕ) (r : Rest) (e : List Watch) (t : Tree) → Stands image e r t → is_in (numbered q) k t ≡ is_of image q k r
+    pub in-is : (q k : ℕ) (r : Rest) (e : List Watch) (t : Tree) → Stands image e r t → is_in (numbered q) k t ≡ is_of image q k r
     in-is q k (at_pause i) e t h = ap (is_in (numbered q) k) h
     in-is q k (ahead r nodes) e t h = in-is q k r e t h
     in-is q k (within j r) e t h = in-is q k r (e ++ watch image j h.0 false ∷ []) t h.1

@@ -2,7 +2,7 @@
 use Rattle.std.specs.Prelude.{ℕ, ◌+◌, ◌*◌, max, List, [], ◌∷◌}
 use Rattle.pc_ir.specs.Flow.{Node, Nodes, straight, sequence, branch, turns, bounded, call, pause, fork, guard, no_nodes, and, Rest}
 use Rattle.pc_ir.specs.Residuals.{Of, OfAll, of_list, of_first, of_second, of_turns, of_pause, of_guard, of_fork, of_last, of_head, of_tail}
-use Rattle.pc_region.specs.Counts.{Sizes, total, option_words, through, through_all, all_in}
+use Rattle.pc_region.specs.Counts.{Sizes, total_of, total, option_words, through, through_all, all_in}
 
 module _ (sizes : Sizes) where
   -- the words of a node, each once, and the steps of what it calls, repeats and starts
@@ -90,10 +90,6 @@ abbrev mutual
 
 -- what the threads of a node's fork take, where each takes so much
 module _ (worst : ℕ → ℕ) where
-  abbrev pub total_of : List ℕ → ℕ
-  total_of [] = 0
-  total_of (f ∷ fs) = worst f + total_of fs
-
   abbrev mutual
     pub forks_in : Node → ℕ
     forks_in (straight steps) = 0
@@ -103,7 +99,7 @@ module _ (worst : ℕ → ℕ) where
     forks_in (bounded n test body) = 0
     forks_in (call f) = 0
     forks_in (pause i) = 0
-    forks_in (fork i fs) = total_of fs
+    forks_in (fork i fs) = total_of worst fs
     forks_in (guard j body) = forks_in body
 
     pub forks_in_all : Nodes → ℕ

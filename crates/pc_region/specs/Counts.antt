@@ -10,11 +10,15 @@ pub record Sizes : Type 0 where
   pub threads : ℕ → ℕ
   pub routines : ℕ → ℕ
 
+-- the sum over the functions of a list
+abbrev pub total_of : (ℕ → ℕ) → List ℕ → ℕ
+total_of worth [] = 0
+total_of worth (f ∷ fs) = worth f + total_of worth fs
+
 module _ (sizes : Sizes) where
   -- the threads of a fork
   abbrev pub total : List ℕ → ℕ
-  total [] = 0
-  total (f ∷ fs) = sizes.threads f + total fs
+  total fs = total_of sizes.threads fs
 
   abbrev pub option_words : Option Test → ℕ
   option_words None = 0

@@ -11,5 +11,7 @@ pub mod Ticks
 pub mod Words
 pub mod Bounds
 pub mod Image
+pub mod Sizing
+pub mod Limits
 pub mod Slotwise
 pub mod Laws

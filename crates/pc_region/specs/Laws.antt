@@ -1,0 +1,60 @@
+-- The laws of this crate, at the machine's data.
+use Rattle.std.specs.Prelude.{ℕ, ℤ, ◌+◌, ◌*◌, ◌≤◌, length, Bool, IsTrue, List, []}
+use Rattle.mb_pfu.specs.Tree.{Tree}
+use Rattle.pt_image.specs.declared.Parts.{Parts}
+use Rattle.mb_step.specs.Tick.{base_of}
+use Rattle.mb_step.specs.Cells.{Cells, machine}
+use Rattle.mb_step.specs.Free.{IsConfiguration}
+use Rattle.pc_ir.specs.Flow.{State, Step, Test, Node, Rest, Flow, Position, sampled}
+use Rattle.pc_region.specs.Slots.{Fits}
+use Rattle.pc_region.specs.Standing.{Stands}
+use Rattle.pc_region.specs.Laid.{Placing}
+use Rattle.pc_region.specs.Counts.{Sizes}
+use Rattle.pc_region.specs.Law.{unnested, unit_at}
+use Rattle.pc_region.specs.Program.{InOrder}
+use Rattle.pc_region.specs.Words.{Writing, DataLaws}
+use Rattle.pc_region.specs.Image.{IsImageOf, StandsAt, steps_at, TickIs}
+use Rattle.pc_region.specs.Sizing.{sizes_of, Count}
+use Rattle.pc_region.specs.Limits.{IsWithinLimits}
+use Rattle.pc_region.specs.Slotwise.{StandsSlotwise}
+
+-- registers and memory stand for a state where all these comparisons of the two hold
+abbrev pub Agree : (ℕ → Cells → State → Bool) → Cells → State → Type 0
+Agree compared d w = (n : ℕ) → IsTrue (compared n d w)
+
+-- Each tick of an image of a flow does what the flow does in that tick, on every row of inputs, from wherever it stands.
+abbrev pub TicksAreThoseOfTheFlow : Type 0
+TicksAreThoseOfTheFlow =
+    (parent : ℕ → ℕ) (image : Parts) (costs : List ℕ) (f : Flow) (writing : Writing) (sizes : Sizes) (placing : Placing)
+    (compared : ℕ → Cells → State → Bool) (row : List ℤ) →
+    IsImageOf parent image costs f writing sizes placing →
+    DataLaws (machine image row) (Agree compared) (sampled f row) writing →
+    (p : Position) (before : State) (from : Tree) (d : Cells) (stands : StandsAt parent image f p from) → Agree compared d before →
+    TickIs parent image f costs (machine image row) (Agree compared) row p before from d
+    (steps_at parent image f writing sizes p from stands)
+
+-- There are sizes that hold what each function takes with all that it calls and starts, and no more than need be.
+abbrev pub SizesAreThere : Type 0
+SizesAreThere =
+    (words : List Step → ℕ) (test_words : Test → ℕ) (bodies : List Node) → InOrder 0 bodies →
+    (f : ℕ) → Count (sizes_of words test_words bodies) bodies f
+
+-- Within the limits of the language no tick of an image is charged more than 1,000,000,000,000, for every cost table.
+abbrev pub TicksAreLimited : Type 0
+TicksAreLimited =
+    (parent : ℕ → ℕ) (image : Parts) (costs : List ℕ) (f : Flow) (writing : Writing) (sizes : Sizes) (placing : Placing) →
+    IsImageOf parent image costs f writing sizes placing → IsWithinLimits image f writing sizes →
+    (p : Position) (t : Tree) (stands : StandsAt parent image f p t) →
+    base_of image costs + 255 * steps_at parent image f writing sizes p t stands ≤ 1000000000000
+
+-- Wherever a flow stands between two ticks, the unit is in a configuration: so what is said of all free ticks is said of its ticks.
+abbrev pub FlowsStandInConfigurations : Type 0
+FlowsStandInConfigurations =
+    (parent : ℕ → ℕ) (image : Parts) (costs : List ℕ) (f : Flow) (writing : Writing) (sizes : Sizes) (placing : Placing) →
+    IsImageOf parent image costs f writing sizes placing → length image.slots ≤ 64 →
+    (p : Position) (t : Tree) → StandsAt parent image f p t → IsConfiguration image (unit_at image unnested t)
+
+-- Where a tree is where a residual stands, each slot has the state that the residual gives it, and all others are free.
+abbrev pub SlotsStandAsTheResidual : Type 0
+SlotsStandAsTheResidual =
+    (parent : ℕ → ℕ) (image : Parts) (r : Rest) (t : Tree) → Stands image [] r t → Fits parent 0 t → StandsSlotwise image r t

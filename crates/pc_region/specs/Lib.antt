@@ -1,0 +1,17 @@
+pub mod Slots
+pub mod Places
+pub mod Standing
+pub mod Laid
+pub mod Counts
+pub mod Law
+pub mod Program
+pub mod Turns
+pub mod Tests
+pub mod Ticks
+pub mod Words
+pub mod Bounds
+pub mod Image
+pub mod Sizing
+pub mod Limits
+pub mod Slotwise
+pub mod Laws

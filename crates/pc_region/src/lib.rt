@@ -1,0 +1,41 @@
+//! The region law: the words of a node, wherever they stand in an image, do what the node means; so each tick of an image
+//! that holds a flow does what the flow does in that tick.
+//!
+//! It is said once over `mb_step`, for any data and any surroundings. Read `Slots`, `Places`, `Standing`, `Laid`, `Counts`, `Law`,
+//! `Program`, `Turns`, `Tests`, `Ticks`, `Words`, `Image`, `Bounds`, `Sizing`, `Limits`, `Slotwise` and `Laws` in `specs/` in
+//! this order. `Laid` says where the words of a node stand, `Standing` where the slots of a residual do; `Law` says what it is
+//! that code does what is meant; `Image` says when an image is that of a flow. What is left to whoever uses it are the laws of
+//! the data (`DataLaws`) and that an image is laid out so (`IsImageOf`). The functions below do nothing: their contracts are
+//! the laws.
+#![tactic(auto)]
+
+ghost use Rattle.pc_region.specs.Laws.{TicksAreThoseOfTheFlow, SizesAreThere, TicksAreLimited, FlowsStandInConfigurations, SlotsStandAsTheResidual};
+
+/// Each tick of an image of a flow does what the flow does in that tick: it ends where the flow stands then, with data for its
+/// state, and is charged at most 255 for each of so many steps; on every row of inputs, from wherever the flow stands, for
+/// every cost table and every limit that leaves room for the charge.
+pub fn ticks_are_those_of_the_flow()
+    ensures { TicksAreThoseOfTheFlow }
+{}
+
+/// The sizes that such an image asks for are there, whatever the steps and the tests take.
+pub fn sizes_are_there()
+    ensures { SizesAreThere }
+{}
+
+/// Within the limits of the language that is never more than 1,000,000,000,000 with what the tick itself is charged, for every
+/// cost table.
+pub fn ticks_are_limited()
+    ensures { TicksAreLimited }
+{}
+
+/// Between two ticks the unit is in a configuration, so what is said of all free ticks is said of the ticks of a flow.
+pub fn flows_stand_in_configurations()
+    ensures { FlowsStandInConfigurations }
+{}
+
+/// Where a tree is where a residual stands, slot 0 is paused at the place of its pause or waits at the place of its fork, each
+/// child has ended or stands for its member of the group, and all other slots are free.
+pub fn slots_stand_as_the_residual()
+    ensures { SlotsStandAsTheResidual }
+{}

@@ -1,10 +1,12 @@
 //! Runs an image for so many ticks and prints what it took: standard input has the number of ticks on its first line and
-//! the image, which has no inputs, behind it. `bench/run` times it beside a plain interpreter.
+//! the image behind it; each input is 0. `bench/run` times it beside a plain interpreter.
 #![tactic(auto)]
 
-use mb_core::Machine;
+ghost use Rattle.std.specs.Prelude.{◌≡◌, length};
+
+use mb_core::{Machine, Trap};
 use mb_isa::unit_costs;
-use pt_base::Text;
+use pt_base::{Memory, Text};
 use pt_image::Image;
 use std::alloc::Global;
 use std::io;
@@ -12,25 +14,32 @@ use std::io;
 // The cycles that a tick may take.
 const MOST: u64 = 1_000_000_000_000;
 
-// What is told of the ticks of an image: their number and all their cycles, or why they aren't done.
-fn told(alloc: Global, ticks: u64, image: &[u8]) -> Result<String, pt_base::Memory> {
-    let text = Text::of(alloc, image)?;
+// The cycles of so many ticks of an image, or the trap that stopped them. Each input is 0.
+fn cycles_of(machine: &mut Machine, inputs: &[i32], outputs: &mut [i32], ticks: u64) -> Result<u64, Trap>
+    requires inputs { length inputs.now ≡ length machine.old.image.inputs }
+    requires outputs { length outputs.old ≡ length machine.old.image.outputs }
+{
+    let mut cycles = 0u64;
+    for _ in 0..ticks {
+        let more = machine.tick(inputs, outputs, MOST)?;
+        cycles = cycles.wrapping_add(more);
+    }
+    Ok(cycles)
+}
+
+// What is told of the ticks of an image: their number and all their cycles, or their trap.
+fn told(alloc: Global, ticks: u64, text: &[u8]) -> Result<String, Memory> {
+    let text = Text::of(alloc, text)?;
     let Ok(image) = Image::read(alloc, &text) else {
         return Ok(format!(in alloc; "no image")?);
     };
-    if !image.inputs().is_empty() {
-        return Ok(format!(in alloc; "an image with inputs")?);
-    }
     let mut machine = Machine::load(alloc, &image, &unit_costs())?;
+    let inputs = vec![in alloc; 0; image.inputs().len()]?;
     let mut outputs = vec![in alloc; 0; image.outputs().len()]?;
-    let mut cycles = 0u64;
-    for _ in 0..ticks {
-        match machine.tick(&[], &mut outputs, MOST) {
-            Ok(more) => cycles = cycles.wrapping_add(more),
-            Err(trap) => return Ok(format!(in alloc; "{:?} at {}", trap.kind, trap.at)?),
-        }
+    match cycles_of(&mut machine, &inputs, &mut outputs, ticks) {
+        Ok(cycles) => Ok(format!(in alloc; "ticks {} cycles {}", ticks, cycles)?),
+        Err(trap) => Ok(format!(in alloc; "{:?} at {}", trap.kind, trap.at)?),
     }
-    Ok(format!(in alloc; "ticks {} cycles {}", ticks, cycles)?)
 }
 
 fn main(rt: HostRuntime) -> io::Result<()> {

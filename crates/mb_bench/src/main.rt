@@ -15,7 +15,12 @@ use std::io;
 const MOST: u64 = 1_000_000_000_000;
 
 // The cycles of so many ticks of an image, or the trap that stopped them. Each input is 0.
-fn cycles_of(machine: &mut Machine, inputs: &[i32], outputs: &mut [i32], ticks: u64) -> Result<u64, Trap>
+fn cycles_of(
+    machine: &mut Machine,
+    inputs: &[i32],
+    outputs: &mut [i32],
+    ticks: u64,
+) -> Result<u64, Trap>
     requires inputs { length inputs.now ≡ length machine.old.image.inputs }
     requires outputs { length outputs.old ≡ length machine.old.image.outputs }
 {

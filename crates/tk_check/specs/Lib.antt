@@ -1,4 +1,0 @@
-pub mod Bounded
-pub mod Answers
-pub mod PlainLines
-pub mod Marked

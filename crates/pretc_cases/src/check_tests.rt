@@ -127,34 +127,86 @@ fn a_file_out_of_form_has_its_group_of_lines(rt: HostRuntime) -> Result<(), Fail
     Ok(())
 }
 
-// Whether these files aren't built.
-fn is_not_built(alloc: Global, image: &str, cert: &str) -> Result<bool, Memory> {
-    answers(alloc, image, cert, 12, "not built\n")
+#[test]
+fn images_with_forks_aborts_loops_and_routines_are_checked(rt: HostRuntime) -> Result<(), Fail> {
+    let alloc = rt.alloc();
+    assert!(rt;
+        answers(
+            alloc,
+            "ARPRET 1\ncode 7\nfc000102\n30630001\nfc200000\nfc400000\nfc200000\nfc400000\nfc400000\nmemory 0\ninputs 0\noutputs 0\nslots 3\n0\n4\n6\naborts 0\npauses 2\n2 0 0\n4 1 0\nforks 1\n0 0 0\n",
+            "PRETCERT 1\nbound 4\nat 7\nT 0 0 0 3 -\nT 0 0 0 2 -\nT 0 0 0 1 -\nT 0 0 0 - 1\nT 1 0 0 1 -\nT 1 0 0 - 1\nT 2 0 0 - 1\nloops 0\nslots 3\n3 1\n- 1\n- -\nwalk 3\nw 0\np 4\ne\nchoices 0\n\n",
+            0,
+            "yes bound 4 reached\n"
+        )?
+    );
+    assert!(rt;
+        answers(
+            alloc,
+            "ARPRET 1\ncode 6\nfc600000\nfc200000\nb800fffc\nb800fff4\ne8800000\nfd440000\nmemory 1\n0\ninputs 1\n0\noutputs 0\nslots 1\n0\naborts 1\nw 4 3\npauses 1\n1 0 1 0\nforks 0\n",
+            "PRETCERT 1\nbound 9\nat 6\nT 0 0 0 2 -\nT 0 1 0 0 1 - 4 -\nT 0 1 0 0 2 - 5 -\nT 0 0 0 3 -\nC 2\nC 1\nloops 0\nslots 1\n7 -\nwalk 1\np 1\nchoices 1\n1\n",
+            0,
+            "yes bound 9 reached\n"
+        )?
+    );
+    assert!(rt;
+        answers(
+            alloc,
+            "ARPRET 1\ncode 6\nfce00003\nfd000004\n30630001\nb800fff8\nfc200000\nb800ffec\nmemory 0\ninputs 0\noutputs 0\nslots 1\n0\naborts 0\npauses 1\n4 0 0\nforks 0\n",
+            "PRETCERT 1\nbound 14\nat 6\nT 0 0 0 12 -\nT 0 0 1 0 2 -\nT 0 0 1 0 4 -\nT 0 0 1 0 3 -\nT 0 0 0 1 -\nT 0 0 0 13 -\nloops 1\n0 3\nslots 1\n13 -\nwalk 1\np 4\nchoices 0\n\n",
+            0,
+            "yes bound 14 reached\n"
+        )?
+    );
+    assert!(rt;
+        answers(
+            alloc,
+            "ARPRET 1\ncode 6\nfc600000\nfc000101\nfc800000\nfc400000\nfc400000\nfd400000\nmemory 0\ninputs 0\noutputs 0\nslots 2\n0\n4\naborts 1\ns 5 3\npauses 0\nforks 1\n1 0 1 0\n",
+            "PRETCERT 1\nbound 6\nat 6\nT 0 0 0 - 5\nT 0 1 0 0 - 4 - 4\nT 0 1 0 0 - 2 - 2\nT 0 0 0 - 1\nT 1 0 0 - 1\nC 1\nloops 0\nslots 2\n- -\n- -\nwalk 2\ns\nf\nchoices 0\n\n",
+            0,
+            "yes bound 6 reached\n"
+        )?
+    );
+    assert!(rt;
+        answers(
+            alloc,
+            "ARPRET 1\ncode 4\nfca00002\nfc400000\nfca00002\nfcc00000\nmemory 0\ninputs 0\noutputs 0\nslots 1\n0\naborts 0\npauses 0\nforks 0\n",
+            "PRETCERT 1\nbound 7\nat 4\nT 0 0 0 - 6\nT 0 0 0 - 1\nR 1 0 4\nR 1 0 1\nloops 0\nslots 1\n- -\nwalk 1\ns\nchoices 0\n\n",
+            9,
+            "no A1 at 2 level 0 needed 0 given 0\n"
+        )?
+    );
+    assert!(rt; answers(alloc, FORKS, FORKS_CERT, 9, "no A2 at 1 level 0 needed 0 given 0\n")?);
+    Ok(())
 }
 
 #[test]
-fn what_is_not_plain_is_not_built(rt: HostRuntime) -> Result<(), Fail> {
+fn words_weights_and_loops_are_looked_at(rt: HostRuntime) -> Result<(), Fail> {
     let alloc = rt.alloc();
-    assert!(rt; is_not_built(alloc, FORKS, FORKS_CERT)?);
     assert!(rt;
-        is_not_built(
+        answers(
             alloc,
             "ARPRET 1\ncode 5\ne8600000\nffffffff\nf8600004\nfc200000\nb800fff0\nmemory 2\n0\n0\ninputs 1\n0\noutputs 1\n1\nslots 1\n0\naborts 0\npauses 1\n3 0 0\nforks 0\n",
-            COUNTER_CERT
+            COUNTER_CERT,
+            9,
+            "no A1 at 1 level 0 needed 0 given 0\n"
         )?
     );
     assert!(rt;
-        is_not_built(
+        answers(
             alloc,
             COUNTER,
-            "PRETCERT 1\nbound 8\nat 5\nT 0 0 0 4 -\nT 0 0 0 3 -\nT 0 0 0 2 -\nT 0 0 0 1 -\nT 0 0 0 5 -\nloops 1\n3 1\nslots 1\n5 -\nwalk 1\np 3\nchoices 0\n\n"
+            "PRETCERT 1\nbound 8\nat 5\nT 0 0 0 4 -\nT 0 0 0 3 -\nT 0 0 0 2 -\nT 0 0 0 1 -\nT 0 0 0 5 -\nloops 1\n3 1\nslots 1\n5 -\nwalk 1\np 3\nchoices 0\n\n",
+            0,
+            "yes bound 8 reached\n"
         )?
     );
     assert!(rt;
-        is_not_built(
+        answers(
             alloc,
             COUNTER,
-            "PRETCERT 1\nbound 8\nat 5\nT 0 0 1 2 4 -\nT 0 0 0 3 -\nT 0 0 0 2 -\nT 0 0 0 1 -\nT 0 0 0 5 -\nloops 0\nslots 1\n5 -\nwalk 1\np 3\nchoices 0\n\n"
+            "PRETCERT 1\nbound 8\nat 5\nT 0 0 1 2 4 -\nT 0 0 0 3 -\nT 0 0 0 2 -\nT 0 0 0 1 -\nT 0 0 0 5 -\nloops 0\nslots 1\n5 -\nwalk 1\np 3\nchoices 0\n\n",
+            9,
+            "no A1 at 0 level 0 needed 0 given 0\n"
         )?
     );
     Ok(())

@@ -31,7 +31,7 @@ pub enum Ending {
     NotAccepted {
         condition: u8,
         at: u32,
-        level: u32,
+        level: usize,
         needed: u128,
         given: Option<u64>,
     },

@@ -20,7 +20,7 @@ use Rattle.pretc_top.specs.Outside.{Outside}
 use Rattle.pretc_top.specs.Loading.{IsAsBefore, IsFailedLoad, LoadFails, load_fault, no_file, load_memory, ProgramFails, program_missing, program_refused, program_memory}
 use Rattle.pretc_top.specs.Says.{SaysEnds, said, unsaid, IsPrinted, IsRuled, GenEnds, generates, gen_memory}
 use Rattle.pretc_top.proofs.Shelves.{same_shelf}
-use Rattle.pretc_top.specs.Check.{CheckEnds, other_costs, not_loaded, judged, LoadsFail, no_image, no_cert, Judged, image_fails, cert_fails, not_plain, decided, ImageFails, bad_image, image_memory, CertFails, bad_cert, cert_memory, Decided, accepted, not_accepted, AreLoaded, AreRead, refusal_of, unit_word}
+use Rattle.pretc_top.specs.Check.{CheckEnds, other_costs, not_loaded, judged, LoadsFail, no_image, no_cert, Judged, image_fails, cert_fails, decided, ImageFails, bad_image, image_memory, CertFails, bad_cert, cert_memory, Decided, accepted, not_accepted, AreLoaded, AreRead, refusal_of, unit_word}
 use Rattle.pretc_top.specs.Go.{IsBuilt, IsMade, IsFailedStore, BuildFails, unread, not_small, StoreFails, store_fault, store_memory, IsUnready, unbuilt, unstored, unloaded}
 use Rattle.pretc_top.specs.Comes.{Ends, no_command, go_ends, check_ends, print_ends, rules_ends, mean_ends, gen_ends}
 use Rattle.pretc_top.specs.Causes.{BreaksRule, IsRefusedBy, go_refused, print_refused, rules_refused, mean_refused, LacksFile, go_lacks, check_lacks, check_lacks_cert, print_lacks, rules_lacks, mean_lacks, BoundHolds}
@@ -113,7 +113,6 @@ module _ (old new : Outside) where
         Judged image_text cert_text unit line e → Cause old new (Some (Check image cert costs)) (line ∷ []) e
     of_judged image_text cert_text _ _ units l (image_fails e f) = of_image image_text e l.kept f
     of_judged image_text cert_text _ _ units l (cert_fails e i is f) = of_cert cert_text e l.kept f
-    of_judged image_text cert_text _ _ units l (not_plain i c r n) = by_form (Some (Check image cert costs)) l.kept
     of_judged image_text cert_text _ _ units l (decided i c line e r d) = of_decided image_text cert_text i c line e units l r d
 
     of_loads : (e : Ending) → LoadsFail image cert old.shelf new.shelf e → Cause old new (Some (Check image cert costs)) (line_of e ∷ []) e

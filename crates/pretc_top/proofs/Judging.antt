@@ -3,14 +3,14 @@ use Rattle.std.proofs.Common.{◌≡◌, ◌↔◌, IsTrue, ℕ, Bool, false, Li
 use Rattle.pt_trace.specs.Verdict.{yes_line}
 use Rattle.pt_image.specs.declared.Parts.{Parts}
 use Rattle.mb_isa.specs.Costs.{unit}
-use Rattle.tk_free.specs.Walks.{IsCostOf, IsWorst}
 use Rattle.tk_cert.specs.declared.CertParts.{CertParts}
-use Rattle.tk_cert.specs.Demands.{Demand, first_failing}
-use Rattle.tk_cert.specs.Conditions.{IsAccepted, demands}
+use Rattle.tk_cert.specs.Demands.{Demand, first_failing, AllHold}
+use Rattle.tk_bound.specs.Acceptance.{asks}
+use Rattle.tk_bound.specs.Bounded.{BoundsFreeTicks, BoundsRuns}
+use Rattle.tk_bound.specs.Walks.{IsCostOf, IsWorst}
 use Rattle.tk_check.specs.declared.Answer.{Answer}
 use Rattle.tk_check.specs.declared.Answer.TheVariants.{Yes, No}
 use Rattle.tk_check.specs.Answers as answers
-use Rattle.tk_check.specs.Bounded.{BoundsFreeTicks, BoundsRuns}
 use Rattle.pretc_run.specs.declared.endings.Ending.{Ending}
 use Rattle.pretc_run.specs.declared.endings.Ending.TheVariants.{Done, NotAccepted}
 use Rattle.pretc_run.specs.Endings.{line_of}
@@ -20,7 +20,7 @@ pub not_true : (b : Bool) → b ≡ false → IsTrue b → ⊥
 not_true b e h = cc
 
 yes_of : (image : Parts) (cert : CertParts) (line : List ℕ) (answer : Answer) (reached : Bool) → answer ≡ Yes reached →
-    (answers.IsYes answer ↔ IsAccepted image cert unit) → (answers.IsYes answer → BoundsFreeTicks image unit cert.bound) → (answers.IsYes answer → BoundsRuns image unit cert.bound) →
+    (answers.IsYes answer ↔ AllHold (asks image cert unit)) → (answers.IsYes answer → BoundsFreeTicks image unit cert.bound) → (answers.IsYes answer → BoundsRuns image unit cert.bound) →
     answers.IfYes answer (λ r. IsTrue r ↔ IsCostOf image unit cert.walk cert.bound) → answers.IfYes answer (λ r. IsTrue r → IsWorst image unit cert.bound) →
     line ≡ yes_line cert.bound reached → Decided image cert unit line Done
 yes_of image cert line (Yes r) reached e a f g h w l =
@@ -31,11 +31,11 @@ yes_of image cert line (No condition at level needed given) reached e a f g h w 
 
 -- a yes, with its line, where the costs were found to be the units
 pub yes_at : (image : Parts) (cert : CertParts) (line : List ℕ) (answer : Answer) (reached : Bool) (costs : List ℕ) (bound : ℕ) → costs ≡ unit → bound ≡ cert.bound → answer ≡ Yes reached →
-    (answers.IsYes answer ↔ IsAccepted image cert costs) → (answers.IsYes answer → BoundsFreeTicks image costs cert.bound) → (answers.IsYes answer → BoundsRuns image costs cert.bound) →
+    (answers.IsYes answer ↔ AllHold (asks image cert costs)) → (answers.IsYes answer → BoundsFreeTicks image costs cert.bound) → (answers.IsYes answer → BoundsRuns image costs cert.bound) →
     answers.IfYes answer (λ r. IsTrue r ↔ IsCostOf image costs cert.walk cert.bound) → answers.IfYes answer (λ r. IsTrue r → IsWorst image costs cert.bound) →
     line ≡ yes_line bound reached → Decided image cert unit line Done
 yes_at image cert line answer reached costs bound units same e a f g h w l =
-    let A : List ℕ → Type 0 = λ k. answers.IsYes answer ↔ IsAccepted image cert k in
+    let A : List ℕ → Type 0 = λ k. answers.IsYes answer ↔ AllHold (asks image cert k) in
     let F : List ℕ → Type 0 = λ k. answers.IsYes answer → BoundsFreeTicks image k cert.bound in
     let G : List ℕ → Type 0 = λ k. answers.IsYes answer → BoundsRuns image k cert.bound in
     let H : List ℕ → Type 0 = λ k. answers.IfYes answer (λ r. IsTrue r ↔ IsCostOf image k cert.walk cert.bound) in
@@ -47,7 +47,7 @@ ending_is : (d : Demand) (condition at level needed : ℕ) (given : Option ℕ) 
     NotAccepted condition at level needed given ≡ refusal_of d
 ending_is d condition at level needed given e = cc e
 
-no_of_demand : (image : Parts) (cert : CertParts) (answer : Answer) (condition at level needed : ℕ) (given : Option ℕ) (o : Option Demand) → o ≡ first_failing (demands image cert unit) →
+no_of_demand : (image : Parts) (cert : CertParts) (answer : Answer) (condition at level needed : ℕ) (given : Option ℕ) (o : Option Demand) → o ≡ first_failing (asks image cert unit) →
     answers.Answers o answer → answer ≡ No condition at level needed given →
     Decided image cert unit (line_of (NotAccepted condition at level needed given)) (NotAccepted condition at level needed given)
 no_of_demand image cert answer condition at level needed given None is a e = let P : Answer → Type 0 = λ x. answers.IsYes x in absurd (subst P e a)
@@ -57,8 +57,8 @@ no_of_demand image cert answer condition at level needed given (Some d) is a e =
 
 -- a no, where the costs were found to be the units
 pub no_at : (image : Parts) (cert : CertParts) (answer : Answer) (condition at level needed : ℕ) (given : Option ℕ) (costs : List ℕ) → costs ≡ unit →
-    answers.Answers (first_failing (demands image cert costs)) answer → answer ≡ No condition at level needed given →
+    answers.Answers (first_failing (asks image cert costs)) answer → answer ≡ No condition at level needed given →
     Decided image cert unit (line_of (NotAccepted condition at level needed given)) (NotAccepted condition at level needed given)
 no_at image cert answer condition at level needed given costs units a e =
-    let A : List ℕ → Type 0 = λ k. answers.Answers (first_failing (demands image cert k)) answer in
-    no_of_demand image cert answer condition at level needed given (first_failing (demands image cert unit)) refl (subst A units a) e
+    let A : List ℕ → Type 0 = λ k. answers.Answers (first_failing (asks image cert k)) answer in
+    no_of_demand image cert answer condition at level needed given (first_failing (asks image cert unit)) refl (subst A units a) e

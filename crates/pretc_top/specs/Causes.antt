@@ -6,7 +6,7 @@ use Rattle.pt_outside.specs.Told.{SinkTold}
 use Rattle.mb_isa.specs.Costs.{unit}
 use Rattle.pt_image.specs.declared.Parts.{Parts}
 use Rattle.tk_cert.specs.declared.CertParts.{CertParts}
-use Rattle.tk_check.specs.Bounded.{BoundsFreeTicks, BoundsRuns}
+use Rattle.tk_bound.specs.Bounded.{BoundsFreeTicks, BoundsRuns}
 use Rattle.pt_base.specs.declared.Rule.{Rule}
 use Rattle.pt_base.specs.declared.Span.{Span}
 use Rattle.pc_source.specs.Sources.{Breaks}

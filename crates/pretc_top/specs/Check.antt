@@ -9,15 +9,13 @@ use Rattle.pt_image.specs.Ranges.{IsImage}
 use Rattle.pt_image.specs.Form.{AreWords, image_form}
 use Rattle.pt_image.specs.Text as image_file
 use Rattle.mb_isa.specs.Costs.{unit}
-use Rattle.mb_core.specs.Plain.{IsPlain}
-use Rattle.tk_free.specs.Walks.{IsCostOf, IsWorst}
 use Rattle.tk_cert.specs.declared.CertParts.{CertParts}
 use Rattle.tk_cert.specs.Form.{IsInForm, cert_form}
 use Rattle.tk_cert.specs.Text as cert_file
-use Rattle.tk_cert.specs.Plain.{IsPlainCert}
-use Rattle.tk_cert.specs.Demands.{Demand, first_failing}
-use Rattle.tk_cert.specs.Conditions.{IsAccepted, demands}
-use Rattle.tk_check.specs.Bounded.{BoundsFreeTicks, BoundsRuns}
+use Rattle.tk_cert.specs.Demands.{Demand, first_failing, AllHold}
+use Rattle.tk_bound.specs.Acceptance.{asks}
+use Rattle.tk_bound.specs.Bounded.{BoundsFreeTicks, BoundsRuns}
+use Rattle.tk_bound.specs.Walks.{IsCostOf, IsWorst}
 use Rattle.pretc_run.specs.declared.endings.Ending.{Ending}
 use Rattle.pretc_run.specs.declared.endings.Ending.TheVariants.{Done, WantOfMemory, BadImage, BadCert, NotAccepted, NotBuilt}
 use Rattle.pretc_run.specs.Endings.{number_of, line_of}
@@ -51,9 +49,9 @@ pub record AreRead (image_text cert_text : List ℕ) (image : Parts) (cert : Cer
   pub image_is : IsImageText image_text image
   pub cert_is : IsCertText cert_text cert
 
--- The certificate is accepted, so its bound bounds each free tick and each tick of each run.
+-- All demands hold of the certificate, so its bound bounds each free tick and each tick of each run.
 pub record IsYes (image : Parts) (cert : CertParts) (costs : List ℕ) (reached : Bool) : Type 0 where
-  pub accepted : IsAccepted image cert costs
+  pub accepted : AllHold (asks image cert costs)
   pub free_ticks : BoundsFreeTicks image costs cert.bound
   pub runs : BoundsRuns image costs cert.bound
   pub reached_is : IsTrue reached ↔ IsCostOf image costs cert.walk cert.bound
@@ -76,14 +74,12 @@ pub data CertFails (text : List ℕ) : Ending → Type 0 where
 -- what the checker says, and the line that is due
 pub data Decided (image : Parts) (cert : CertParts) (costs : List ℕ) : List ℕ → Ending → Type 0 where
   accepted : (reached : Bool) → IsYes image cert costs reached → Decided image cert costs (yes_line cert.bound reached) Done
-  not_accepted : (d : Demand) → first_failing (demands image cert costs) ≡ Some d → Decided image cert costs (line_of (refusal_of d)) (refusal_of d)
+  not_accepted : (d : Demand) → first_failing (asks image cert costs) ≡ Some d → Decided image cert costs (line_of (refusal_of d)) (refusal_of d)
 
--- what the two texts come to, and the line that is due: one isn't read, one isn't plain, or what the checker says of both
+-- what the two texts come to, and the line that is due: one isn't read, or what the checker says of both
 pub data Judged (image_text cert_text : List ℕ) (costs : List ℕ) : List ℕ → Ending → Type 0 where
   image_fails : (e : Ending) → ImageFails image_text e → Judged image_text cert_text costs (line_of e) e
   cert_fails : (e : Ending) (image : Parts) → IsImageText image_text image → CertFails cert_text e → Judged image_text cert_text costs (line_of e) e
-  not_plain : (image : Parts) (cert : CertParts) → AreRead image_text cert_text image cert → (IsPlain image × IsPlainCert cert → ⊥) →
-      Judged image_text cert_text costs (line_of NotBuilt) NotBuilt
   decided : (image : Parts) (cert : CertParts) (line : List ℕ) (e : Ending) → AreRead image_text cert_text image cert → Decided image cert costs line e →
       Judged image_text cert_text costs line e
 

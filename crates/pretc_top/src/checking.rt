@@ -1,7 +1,5 @@
 ghost use Rattle.std.specs.Prelude.{◌≡◌, ◌↔◌, ◌∷◌, [], IsTrue, IfOk, IfErr};
 ghost use Rattle.mb_isa.specs.Costs.{unit};
-ghost use Rattle.mb_core.specs.Plain.{IsPlain};
-ghost use Rattle.tk_cert.specs.Plain.{IsPlainCert};
 ghost use Rattle.pretc_top.specs.Check.{unit_word, IsImageText, ImageFails, IsCertText, CertFails, Decided, Judged, AreLoaded, LoadsFail, CheckEnds};
 ghost use Rattle.pretc_top.specs.Comes.{Concludes};
 
@@ -51,8 +49,6 @@ fn read_cert(alloc: Global, text: &Text) -> Result<Cert, Ending>
 
 // What the checker says of an image and its certificate.
 fn decided(image: &Image, cert: &Cert) -> Saying
-    requires image { IsPlain image.now }
-    requires cert { IsPlainCert cert.now }
     ensures { Decided image.now cert.now unit result.line result.ending }
 {
     match check(image, cert, &unit_costs()) {
@@ -92,12 +88,6 @@ fn judged(alloc: Global, image_text: &Text, cert_text: &Text) -> Saying
         Ok(cert) => cert,
         Err(ending) => return said(ending),
     };
-    if !mb_core::is_plain(&image) {
-        return said(Ending::NotBuilt);
-    }
-    if !tk_cert::is_plain(&cert) {
-        return said(Ending::NotBuilt);
-    }
     decided(&image, &cert)
 }
 

@@ -34,7 +34,7 @@ fn push_number(number: Option<u64>, into: &mut LineBuffer)
 pub fn no_line(
     condition: u8,
     at: u32,
-    level: u32,
+    level: usize,
     needed: u128,
     given: Option<u64>,
     into: &mut LineBuffer,
@@ -47,7 +47,7 @@ pub fn no_line(
     into.push_bytes(b" at ");
     into.push_decimal(u64::from(at));
     into.push_bytes(b" level ");
-    into.push_decimal(u64::from(level));
+    into.push_decimal(level as u64);
     into.push_bytes(b" needed ");
     into.push_wide(needed);
     into.push_bytes(b" given ");

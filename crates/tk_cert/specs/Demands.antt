@@ -1,5 +1,5 @@
 -- What the conditions of acceptance ask, one demand after another: docs/bounds.md, "Acceptance".
-use Rattle.std.specs.Prelude.{ℕ, ◌+◌, nat_le, Bool, false, IsTrue, if◌then◌else◌, List, [], ◌∷◌, Option, Some, None, option_map}
+use Rattle.std.specs.Prelude.{ℕ, nat_le, Bool, false, IsTrue, if◌then◌else◌, List, [], ◌∷◌, Option, Some, None}
 use Rattle.std.specs.List.{AllByRecursion}
 
 -- A demand of a condition: where it is made, at which level, the smaller side and the other, and whether it holds.
@@ -25,10 +25,6 @@ abbrev pub at_least : ℕ → ℕ → ℕ → Option ℕ → Option ℕ → List
 at_least condition at level given None = []
 at_least condition at level given (Some needed) =
     record { condition = condition; at = at; level = level; needed = needed; given = given; holds = reaches given needed } ∷ []
-
--- so much more than a number, where that is there
-abbrev pub more_than : ℕ → Option ℕ → Option ℕ
-more_than cost number = option_map (λ n. cost + n) number
 
 -- the first demand that doesn't hold
 abbrev pub first_failing : List Demand → Option Demand

@@ -3,7 +3,4 @@ pub mod Text
 pub mod Reading
 pub mod Whole
 pub mod Form
-pub mod Plain
 pub mod Demands
-pub mod Lines
-pub mod Conditions

@@ -9,7 +9,6 @@ mod cert;
 mod fault;
 mod line;
 mod lists;
-mod plain;
 mod read;
 mod walk;
 mod write;
@@ -17,7 +16,6 @@ mod writing;
 
 pub use cert::{Cert, CertParts, Line, State, Walk};
 pub use fault::CertFault;
-pub use plain::is_plain;
 
 #[cfg(test)]
 mod tests;

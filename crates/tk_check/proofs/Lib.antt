@@ -1,14 +1,2 @@
-pub mod Refusals
-pub mod Uppers
-pub mod Edges
-pub mod PlainPauses
-pub mod Goals
-pub mod Accepted
-pub mod Demanded
+pub mod Verdicts
 pub mod Reached
-pub mod SoundLists
-pub mod SoundPlaces
-pub mod SoundSteps
-pub mod SoundTicks
-pub mod SoundRuns
-pub mod SoundAnswers

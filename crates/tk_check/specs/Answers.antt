@@ -1,16 +1,12 @@
 -- What the checker answers: docs/bounds.md, "Acceptance".
-use Rattle.std.specs.Prelude.{◌≡◌, Bool, List, Option, Some, None, option_map}
-use Rattle.tk_cert.specs.Demands.{Demand, first_failing}
+use Rattle.std.specs.Prelude.{◌≡◌, Bool, Option, Some, None}
+use Rattle.tk_cert.specs.Demands.{Demand}
 use Rattle.tk_check.specs.declared.answer.Answer.{Answer}
 use Rattle.tk_check.specs.declared.answer.Answer.TheVariants.{Yes, No}
 
 -- the refusal that names a demand
 abbrev pub refusal : Demand → Answer
 refusal d = No d.condition d.at d.level d.needed d.given
-
--- the refusal of the first demand that fails
-abbrev pub refused : List Demand → Option Answer
-refused ds = option_map refusal (first_failing ds)
 
 abbrev pub IsYes : Answer → Type 0
 IsYes (Yes reached) = Unit {0}

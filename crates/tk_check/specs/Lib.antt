@@ -1,4 +1,1 @@
-pub mod Bounded
 pub mod Answers
-pub mod PlainLines
-pub mod Marked

@@ -10,7 +10,7 @@ pub enum Answer {
     No {
         condition: u8,
         at: u32,
-        level: u32,
+        level: usize,
         needed: u128,
         given: Option<u64>,
     },

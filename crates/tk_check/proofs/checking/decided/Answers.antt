@@ -1,16 +1,17 @@
-use Rattle.std.proofs.Common.{refl, sym, ◌∙◌}
+use Rattle.std.proofs.Common.{sym, ◌∙◌}
 use Rattle.tk_cert.specs.Demands.{first_failing}
-use Rattle.tk_cert.specs.Conditions.{demands}
-use Rattle.tk_check.specs.declared.answer.Answer.TheVariants.{Yes}
-use Rattle.tk_check.proofs.Accepted.{yes-accepted, answers-some, answers-none}
+use Rattle.tk_bound.specs.Acceptance.{asks}
+use Rattle.tk_check.proofs.Verdicts.{answers-some, answers-none}
 use Rattle.tk_check.proofs.checking.decided.Goals as goal
 
+pub returns-in-Some-clause-verdict : goal.returns-in-Some-clause-verdict
+returns-in-Some-clause-verdict c = answers-some (first_failing (asks c.args.image.now c.args.cert.now c.args.costs.now)) c.in-Some.refusal (sym c.in-Some.is ∙ c.judge.ensures.first)
+
 pub returns-in-Some-clause-accepted : goal.returns-in-Some-clause-accepted
-returns-in-Some-clause-accepted c =
-    let o = first_failing (demands c.args.image.now c.args.cert.now c.args.costs.now) in
-    yes-accepted c.args.image.now c.args.cert.now c.args.costs.now c.in-Some.refusal o refl (answers-some o c.in-Some.refusal (sym c.in-Some.is ∙ c.first_refusal.ensures))
+returns-in-Some-clause-accepted c = (λ said. absurd said, λ all. absurd (cc (c.in-Some.is, c.judge.ensures.holds.1 all)))
+
+pub returns-in-None-clause-verdict : goal.returns-in-None-clause-verdict
+returns-in-None-clause-verdict c = answers-none (first_failing (asks c.args.image.now c.args.cert.now c.args.costs.now)) c.is_reached.result (sym c.in-None.is ∙ c.judge.ensures.first)
 
 pub returns-in-None-clause-accepted : goal.returns-in-None-clause-accepted
-returns-in-None-clause-accepted c =
-    let o = first_failing (demands c.args.image.now c.args.cert.now c.args.costs.now) in
-    yes-accepted c.args.image.now c.args.cert.now c.args.costs.now (Yes c.is_reached.result) o refl (answers-none o c.is_reached.result (sym c.in-None.is ∙ c.first_refusal.ensures))
+returns-in-None-clause-accepted c = (λ said. c.judge.ensures.holds.0 c.in-None.is, λ all. tt)

@@ -1,8 +1,0 @@
--- The upper half of a place is that behind the place before.
-use Rattle.std.proofs.Common.{◌≡◌, ℕ, suc, List, ap}
-use Rattle.pt_image.specs.declared.Parts.{Parts}
-use Rattle.tk_cert.specs.declared.cert.Line.{Line}
-use Rattle.tk_cert.specs.Lines.{line_at, instr_at, upper_at, upper_behind}
-
-pub upper_before : (image : Parts) (lines : List Line) (place before : ℕ) → place ≡ suc before → upper_at image lines place ≡ upper_behind (line_at lines before) (instr_at image before)
-upper_before image lines place before e = ap (upper_at image lines) e

@@ -1,4 +1,0 @@
-pub mod Pauses
-pub mod Steps
-pub mod Paths
-pub mod Telling

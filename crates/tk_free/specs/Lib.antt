@@ -1,4 +1,0 @@
-pub mod Configurations
-pub mod Free
-pub mod Walks
-pub mod Turns

@@ -3,7 +3,7 @@ use Rattle.std.proofs.Common.{◌≡◌, ◌⊎◌, ◌≤◌, ◌+◌, ◌++◌
 use Rattle.std.proofs.lemmas.Bool.{false≢true, or_cases}
 use Rattle.std.proofs.lemmas.Bool.Decides.{nat_tests}
 use Rattle.std.proofs.lemmas.Option.{none-some, same_Some}
-use Rattle.std.specs.List.{AllByRecursion, list_any, range_with_len}
+use Rattle.std.specs.List.{AllByRecursion}
 use Rattle.mb_isa.specs.declared.Instr.{Instr}
 use Rattle.mb_isa.specs.declared.Instr.TheVariants as instr
 use Rattle.pt_image.specs.declared.Point.{Point}
@@ -13,7 +13,7 @@ use Rattle.tk_cert.specs.declared.cert.CertParts.{CertParts}
 use Rattle.tk_cert.specs.Demands.{Demand, at_least, reaches, AllHold}
 use Rattle.tk_bound.specs.declared.view.Side.{Side}
 use Rattle.tk_bound.specs.declared.view.Side.TheVariants.{ToPause, ToEnd}
-use Rattle.tk_bound.specs.Sums.{plus, greater, or_zero, and_more, resumed_ends, resumed_most, resumed_paused, greatest}
+use Rattle.tk_bound.specs.Sums.{plus, greater, or_zero, and_more, resumed_most, greatest}
 use Rattle.tk_bound.specs.Words.{instr_at}
 use Rattle.tk_bound.specs.Kinds.{abort_at, points_at, places_of}
 use Rattle.tk_bound.specs.Shape.{children_in, children_at}
@@ -26,7 +26,7 @@ use Rattle.tk_paths.specs.Greatest.{stays, where_some, best, num, handlers, rest
 abbrev pub Covers : Option ℕ → Option ℕ → Type 0
 Covers given needed = (n : ℕ) → needed ≡ Some n → (m : ℕ) × (given ≡ Some m) × (n ≤ m)
 
-holds-of : (c at l : ℕ) (given needed : Option ℕ) → Covers given needed → AllHold (at_least c at l given needed)
+pub holds-of : (c at l : ℕ) (given needed : Option ℕ) → Covers given needed → AllHold (at_least c at l given needed)
 holds-of c at l given None h = tt
 holds-of c at l given (Some n) h =
     let m = h n refl in
@@ -35,10 +35,10 @@ holds-of c at l given (Some n) h =
 itself : (o : Option ℕ) → Covers o o
 itself o n e = (n, e, omega arith)
 
-through : (a b c : Option ℕ) → Covers a b → Covers b c → Covers a c
+pub through : (a b c : Option ℕ) → Covers a b → Covers b c → Covers a c
 through a b c f g n e = let x = g n e in let y = f x.0 x.1 in (y.0, y.1, (let l = x.2 in let r = y.2 in omega (arith, l, r)))
 
-greater-left : (a b : Option ℕ) → Covers (greater a b) a
+pub greater-left : (a b : Option ℕ) → Covers (greater a b) a
 greater-left None b n e = absurd (none-some n e)
 greater-left (Some x) None n e = (n, e, omega arith)
 greater-left (Some x) (Some y) n e = by (nat_le x y) refl
@@ -50,7 +50,7 @@ greater-left (Some x) (Some y) n e = by (nat_le x y) refl
     by true k = let l : x ≤ y = leb-true x y k in let s : x ≡ n = same in (y, refl, omega (arith, l, s))
     by false k = let s : x ≡ n = same in (x, refl, omega (arith, s))
 
-greater-right : (a b : Option ℕ) → Covers (greater a b) b
+pub greater-right : (a b : Option ℕ) → Covers (greater a b) b
 greater-right None b n e = (n, e, omega arith)
 greater-right (Some x) None n e = absurd (none-some n e)
 greater-right (Some x) (Some y) n e = by (nat_le x y) refl
@@ -62,14 +62,14 @@ greater-right (Some x) (Some y) n e = by (nat_le x y) refl
     by true k = let s : y ≡ n = same in (y, refl, omega (arith, s))
     by false k = let s : y ≡ n = same in let l : n ≤ x = grind (arith, nat_tests, k, s) in (x, refl, l)
 
-more-covers : (c : ℕ) (a b : Option ℕ) → Covers a b → Covers (more c a) (more c b)
+pub more-covers : (c : ℕ) (a b : Option ℕ) → Covers a b → Covers (more c a) (more c b)
 more-covers c a None f n e = absurd (none-some n e)
 more-covers c a (Some y) f n e =
     let x = f y refl in
     let s : c + y ≡ n = same_Some (c + y) n e in
     (c + x.0, ap (more c) x.1, (let l = x.2 in omega (arith, l, s)))
 
-plus-covers : (a b c : Option ℕ) → Covers b c → Covers (plus a b) (plus a c)
+pub plus-covers : (a b c : Option ℕ) → Covers b c → Covers (plus a b) (plus a c)
 plus-covers None b c f n e = absurd (none-some n e)
 plus-covers (Some z) b c f n e = more-covers z b c f n e
 
@@ -81,11 +81,19 @@ more-none : (o : Option ℕ) → Covers o (more 0 o)
 more-none None n e = absurd (none-some n e)
 more-none (Some m) n e = let s : 0 + m ≡ n = same_Some (0 + m) n e in (m, refl, omega (arith, s))
 
-all-append : {X : Type 0} (P : X → Type 0) (xs ys : List X) → AllByRecursion P xs → AllByRecursion P ys → AllByRecursion P (xs ++ ys)
+-- a group that pauses may stay
+pub staying : (a w : Option ℕ) → Covers (plus a (greater (stays ToPause) w)) a
+staying None w n e = absurd (none-some n e)
+staying (Some x) w n e =
+    let z = greater-left (Some 0) w 0 refl in
+    let s : x ≡ n = same_Some x n e in
+    (x + z.0, ap (plus (Some x)) z.1, omega (arith, s))
+
+pub all-append : {X : Type 0} (P : X → Type 0) (xs ys : List X) → AllByRecursion P xs → AllByRecursion P ys → AllByRecursion P (xs ++ ys)
 all-append P [] ys f g = g
 all-append P (x ∷ xs) ys f g = (f.0, all-append P xs ys f.1 g)
 
-all-flat-in : {X Y : Type 0} (P : Y → Type 0) (f : X → List Y) (xs : List X) → ((x : X) → IsAmong x xs → AllByRecursion P (f x)) → AllByRecursion P (flat_map f xs)
+pub all-flat-in : {X Y : Type 0} (P : Y → Type 0) (f : X → List Y) (xs : List X) → ((x : X) → IsAmong x xs → AllByRecursion P (f x)) → AllByRecursion P (flat_map f xs)
 all-flat-in P f [] h = tt
 all-flat-in P f (x ∷ xs) h = all-append P (f x) (flat_map f xs) (h x (inl refl)) (all-flat-in P f xs (λ y k. h y (inr k)))
 
@@ -97,7 +105,7 @@ among-picked {X} p (y ∷ ys) x h = by (p y) refl h (λ k. among-picked p ys x k
     by true e k later = ⊎_elim (λ s. (inl s, ap p (sym s) ∙ e)) (λ s. let r = later s in (inr r.0, r.1)) k
     by false e k later = let r = later k in (inr r.0, r.1)
 
-abbrev Holding : Demand → Type 0
+abbrev pub Holding : Demand → Type 0
 Holding d = d.holds ≡ true
 
 module _ (image : Parts) (cert : CertParts) (costs : List ℕ) where
@@ -123,25 +131,22 @@ module _ (image : Parts) (cert : CertParts) (costs : List ℕ) where
       by true o s tail f t = t
       by false o s tail f t = all-append Holding (resumes image cert costs p side (more s o)) tail (holds-of 6 p.at 0 (resumed image cert costs side p.slot) (more s o) f) t
 
-  -- the weak ones, behind a sum of the children
-  weak-hold : (p : Point) (side : Side) (c : ℕ) (a : Option ℕ) (i : ℕ) (stack : List ℕ) (k : ℕ) → Covers (resumed image cert costs side p.slot) (more c (plus a (handlers image cert costs side i stack k))) →
-      AllHold (weak_handlers image cert costs (λ j handler. resumes image cert costs p side (more c (plus a (num image cert costs side j handler)))) i stack k)
-  weak-hold p side c a i [] k h = tt
-  weak-hold p side c a i (j ∷ stack) zero h = tt
-  weak-hold p side c a i (j ∷ stack) (suc k) h =
-      let given = resumed image cert costs side p.slot in
+  -- the weak ones, each behind a charge or a sum
+  pub weak-hold : (c at l : ℕ) (given : Option ℕ) (f : Option ℕ → Option ℕ) → ((a b : Option ℕ) → Covers a b → Covers (f a) (f b)) → (side : Side) (i : ℕ) (stack : List ℕ) (k : ℕ) → Covers given (f (handlers image cert costs side i stack k)) →
+      AllHold (weak_handlers image cert costs (λ j handler. at_least c at l given (f (num image cert costs side j handler))) i stack k)
+  weak-hold c at l given f rises side i [] k h = tt
+  weak-hold c at l given f rises side i (j ∷ stack) zero h = tt
+  weak-hold c at l given f rises side i (j ∷ stack) (suc k) h =
       let at_handler = num image cert costs side i ((abort_at image j).handler) in
       let weak = if (abort_at image j).weak then at_handler else None in
       let later = handlers image cert costs side (i + 1) stack k in
       let all = greater weak later in
-      let first = through given (more c (plus a all)) (more c (plus a weak)) h (more-covers c (plus a all) (plus a weak) (plus-covers a all weak (greater-left weak later))) in
-      let second = through given (more c (plus a all)) (more c (plus a later)) h (more-covers c (plus a all) (plus a later) (plus-covers a all later (greater-right weak later))) in
-      by (abort_at image j).weak at_handler _ first (weak-hold p side c a (i + 1) stack k second)
+      let tail = weak_handlers image cert costs (λ x handler. at_least c at l given (f (num image cert costs side x handler))) (i + 1) stack k in
+      by (abort_at image j).weak at_handler tail (through given (f all) (f weak) h (rises all weak (greater-left weak later))) (weak-hold c at l given f rises side (i + 1) stack k (through given (f all) (f later) h (rises all later (greater-right weak later))))
     where
-      by : (b : Bool) (o : Option ℕ) (tail : List Demand) → Covers (resumed image cert costs side p.slot) (more c (plus a (if b then o else None))) → AllHold tail →
-          AllHold ((if b then resumes image cert costs p side (more c (plus a o)) else []) ++ tail)
-      by true o tail f t = all-append Holding (resumes image cert costs p side (more c (plus a o))) tail (holds-of 6 p.at 0 (resumed image cert costs side p.slot) (more c (plus a o)) f) t
-      by false o tail f t = t
+      by : (b : Bool) (o : Option ℕ) (tail : List Demand) → Covers given (f (if b then o else None)) → AllHold tail → AllHold ((if b then at_least c at l given (f o) else []) ++ tail)
+      by true o tail g t = all-append Holding (at_least c at l given (f o)) tail (holds-of c at l given (f o) g) t
+      by false o tail g t = t
 
   -- the greatest of a slot's points covers each of them
   best-covers : (given : Point → Option ℕ) (points : List Point) (p : Point) → IsAmong p points → Covers (best given p.slot points) (given p)
@@ -241,16 +246,9 @@ module _ (image : Parts) (cert : CertParts) (costs : List ℕ) where
           strong = s.0;
           join = holds-of 6 p.at 0 given (more C b) second;
           rest = first;
-          handled = weak-hold p side C (pausing_sum image cert costs lo count) 0 p.stack k third;
+          handled = weak-hold 6 p.at 0 given (λ o. more C (plus (pausing_sum image cert costs lo count) o))
+              (λ x y f. more-covers C (plus (pausing_sum image cert costs lo count) x) (plus (pausing_sum image cert costs lo count) y) (plus-covers (pausing_sum image cert costs lo count) x y f)) side 0 p.stack k third;
         }
-
-    -- a group that pauses may stay
-    staying : (a w : Option ℕ) → Covers (plus a (greater (stays ToPause) w)) a
-    staying None w n e = absurd (none-some n e)
-    staying (Some x) w n e =
-        let z = greater-left (Some 0) w 0 refl in
-        let s : x ≡ n = same_Some x n e in
-        (x + z.0, ap (plus (Some x)) z.1, omega (arith, s))
 
     joins-hold : (p : Point) (lo count : ℕ) → Joins p lo count ToPause → Joins p lo count ToEnd →
         AllHold (resumed_strong image cert costs p ToPause ++ resumed_join image cert costs p lo count ToPause ++ resumes image cert costs p ToPause (more (conditions image cert costs 0 p.stack) (pausing_sum image cert costs lo count))

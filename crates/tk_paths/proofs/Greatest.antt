@@ -29,7 +29,7 @@ use Rattle.tk_paths.specs.Reached.{Has, Handled, Rests, Sum, Resumes, Resumed, T
 use Rattle.tk_paths.specs.Tight.{Edge, across, Joined, Resumption, at_pause, at_fork, Top, over, starts, resumes, IsTight}
 use Rattle.tk_paths.specs.Tight as tight
 use Rattle.tk_paths.specs.Regions.{to, behind, half, word_place, IsUnit, extra, units_cost, through}
-use Rattle.tk_paths.specs.Greatest.{stays, where_some, best, num, handlers, resting, grouping, ended, IsGreatestAt, IsStraightCondition, tested, paused, ending_sum, pausing_sum, joined, waited_by, waited, IsGreatest}
+use Rattle.tk_paths.specs.Greatest.{stays, where_some, best, num, handlers, resting, grouping, ended, IsStraight, IsGreatestWith, IsStraightCondition, tested, paused, ending_sum, pausing_sum, joined, waited_by, waited, IsGreatest}
 use Rattle.tk_paths.specs.Greatest as written
 use Rattle.tk_paths.proofs.Opens.{numbers-same}
 use Rattle.tk_paths.proofs.MaxPlus.{Sums, Gives, Given, greater-is, plus-is, more-is, all-ends-is, most-paused-is, ends-given, pauses-given}
@@ -194,32 +194,35 @@ module _ (image : Parts) (cert : CertParts) (costs : List ℕ) where
               (word-lead image costs Condition c.close u (holds ∷ []) (cost_of costs class.Cend) (tests_on (answered holds u)) (cend-step image costs c.close u holds c.closes));
         })
 
-    edge-is : (place s : ℕ) (stack : List ℕ) (k : ℕ) (side : Side) (n : ℕ) → k ≤ length stack → Has image cert costs side k place n → IsGreatestAt image cert costs place s stack → Edge image cert costs s stack k place side n
-    edge-is place s stack k side n within here (written.passing r laid e one few less goal are) =
+    straight-edge : (place s : ℕ) (stack : List ℕ) (k : ℕ) (side : Side) (n : ℕ) → k ≤ length stack → Has image cert costs side k place n → IsStraight image cert costs place s stack → Edge image cert costs s stack k place side n
+    straight-edge place s stack k side n within here (written.passing r laid e one few less goal are) =
         let m = more-is (through image costs r) (num image cert costs side k (to r)) n (sym (are side k within) ∙ here) in
         let P : ℕ → Type 0 = λ p. Passage image costs p (through image costs r) (to r) in
         across (through image costs r) (to r) m.0 (subst P e (crossing-passage image costs r laid one few less)) goal m.1 m.2
-    edge-is place s stack k side n within here (written.jumping goal word open_goal are) =
+    straight-edge place s stack k side n within here (written.jumping goal word open_goal are) =
         let c = extra image costs place + cost_of costs class.Jump in
         let m = more-is c (num image cert costs side k goal) n (sym (are side k within) ∙ here) in
         across c goal m.0 (jump-passage place goal word) open_goal m.1 m.2
-    edge-is place s stack k side n within here (written.branching goal word open_goal open_next are) =
+    straight-edge place s stack k side n within here (written.branching goal word open_goal open_next are) =
         let c = extra image costs place + cost_of costs class.Untaken in
         let d = extra image costs place + cost_of costs class.Taken in
         ⊎_elim
         (λ x. let m = more-is c (num image cert costs side k (behind image place)) n x in across c (behind image place) m.0 (untaken-passage place goal word) open_next m.1 m.2)
         (λ x. let m = more-is d (num image cert costs side k goal) n x in across d goal m.0 (taken-passage place goal word) open_goal m.1 m.2)
         (greater-is (more c (num image cert costs side k (behind image place))) (more d (num image cert costs side k goal)) n (sym (are side k within) ∙ here))
-    edge-is place s stack k side n within here (written.entering j word are) =
+
+    edge-is : (place s : ℕ) (stack : List ℕ) (k : ℕ) (side : Side) (n : ℕ) → k ≤ length stack → Has image cert costs side k place n → (o : Option Instr) → instr_at image place ≡ o → IsGreatestWith image cert costs o place s stack →
+        Edge image cert costs s stack k place side n
+    edge-is place s stack k side n within here (Some (instr.Abrt j)) word are =
         let m = more-is (cost_of costs class.Abrt) (num image cert costs side k (place + 1)) n (sym (are side k within) ∙ here) in
         tight.entering j m.0 word m.1 m.2
-    edge-is place s stack k side n within here (written.leaving word are) =
+    edge-is place s stack k side n within here (Some instr.Leave) word are =
         let m = more-is (cost_of costs class.Leave) (num image cert costs side (min k (length stack - 1)) (place + 1)) n (sym (are side k within) ∙ here) in
         tight.leaving m.0 word m.1 m.2
-    edge-is place s stack k side n within here (written.pausing word are) =
+    edge-is place s stack k side n within here (Some instr.Eot) word are =
         let m = more-is (cost_of costs class.Eot) (resting image cert costs stack k side) n (sym (are side k within) ∙ here) in
         tight.pausing m.0 word (resting-is stack k side m.0 m.1) m.2
-    edge-is place s stack k side n within here (written.forking lo count word are) =
+    edge-is place s stack k side n within here (Some (instr.Fork lo count)) word are =
         let b = begins image cert costs in
         let m = more-is (cost_of costs class.Fork) (grouping image cert costs place lo count stack k side) n (sym (are side k within) ∙ here) in
         let c = cost_of costs class.Fork in
@@ -231,11 +234,13 @@ module _ (image : Parts) (cert : CertParts) (costs : List ℕ) where
         let p = plus-is (all_ends b lo count) (num image cert costs side k (place + 1)) m.0 x in
         tight.forking lo count ToEnd p.0 p.1 word (sum-is count lo ToEnd p.0 (all-ends-is b count lo p.0 p.2)) p.3 (m.2 ∙ ap (λ z. c + z) p.4))
         (greater-is (plus (most_paused b lo count) (resting image cert costs stack k side)) (plus (all_ends b lo count) (num image cert costs side k (place + 1))) m.0 m.1)
-    edge-is place s stack k side n within here (written.ending word are) = let e = ended-is side n (sym (are side k within) ∙ here) in tight.ending word e.0 e.1
+    edge-is place s stack k side n within here (Some instr.End) word are = let e = ended-is side n (sym (are side k within) ∙ here) in tight.ending word e.0 e.1
       where
         ended-is : (x : Side) (m : ℕ) → ended image cert costs x ≡ Some m → (x ≡ ToEnd) × (m ≡ cost_of costs class.End)
         ended-is ToPause m h = absurd (none-some m h)
         ended-is ToEnd m h = (refl, sym (same_Some (cost_of costs class.End) m h))
+    edge-is place s stack k side n within here (Some other) word g = straight-edge place s stack k side n within here g
+    edge-is place s stack k side n within here None word g = straight-edge place s stack k side n within here g
 
     -- the greatest of the five numbers that a bound covers
     top-is : cert.bound ≡ base_of image costs + greatest (begins image cert costs ToPause 0 ∷ begins image cert costs ToEnd 0 ∷ resumed image cert costs ToPause 0 ∷ resumed image cert costs ToEnd 0 ∷ []) → Top image cert costs
@@ -267,7 +272,7 @@ module _ (image : Parts) (cert : CertParts) (costs : List ℕ) where
 
     pub greatest-tight : IsGreatest image cert costs → IsTight image cert costs
     greatest-tight g = record {
-      edge = λ place s stack k side n here within has. edge-is place s stack k side n within has (g.place place s stack here);
+      edge = λ place s stack k side n here within has. edge-is place s stack k side n within has (instr_at image place) refl (g.place place s stack here);
       asked = λ place line plain. condition-asked place (g.condition place line plain);
       resumption = λ s side n h.
           ⊎_elim (λ e. pause-resumption s side n e) (λ e. fork-resumption s side n e)

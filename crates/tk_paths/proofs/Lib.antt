@@ -13,3 +13,4 @@ pub mod Crossings
 pub mod MaxPlus
 pub mod Greatest
 pub mod Covered
+pub mod Rested

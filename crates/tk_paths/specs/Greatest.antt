@@ -15,8 +15,10 @@ use Rattle.tk_bound.specs.declared.word.Word.TheVariants.{Jump, Branch, Cend}
 use Rattle.tk_bound.specs.Sums.{plus, greater, all_ends, most_paused, resumed_ends, resumed_paused, greatest}
 use Rattle.tk_bound.specs.Words.{instr_at}
 use Rattle.tk_bound.specs.Kinds.{line_at, is_cond, upper_at, abort_at}
+use Rattle.tk_cert.specs.Shapes.{IsCert}
 use Rattle.tk_cert.specs.Demands.{AllHold}
-use Rattle.tk_bound.specs.Acceptance.{number, value, resumed, begins, more, resuming, bounded}
+use Rattle.tk_bound.specs.Acceptance.{number, value, resumed, begins, more, pauses, forks, resuming, bounded}
+use Rattle.tk_bound.specs.Shape.{shape}
 use Rattle.tk_bound.specs.Bounded.{IsAcceptedFor}
 use Rattle.tk_bound.specs.Walks.{most_cycles, IsWorst}
 use Rattle.tk_paths.specs.Reached.{IsOpen}
@@ -76,25 +78,26 @@ module _ (image : Parts) (cert : CertParts) (costs : List ℕ) where
   abbrev pub Are : ℕ → List ℕ → (Side → ℕ → Option ℕ) → Type 0
   Are place stack given = (side : Side) (k : ℕ) → k ≤ length stack → num side k place ≡ given side k
 
-  -- the numbers of an open place, by what stands there
-  pub data IsGreatestAt (place s : ℕ) (stack : List ℕ) : Type 0 where
+  -- the numbers of an open place where the slot goes on in its turn
+  pub data IsStraight (place s : ℕ) (stack : List ℕ) : Type 0 where
     -- straight code, a whole bounded loop, or a call
     passing : (r : Region) → IsLaid image r → from r ≡ place → 1 ≤ through image costs r → links_in r ≤ 16 → counters_in r ≤ 136 →
         IsOpen image cert costs (to r) s stack → Are place stack (λ side k. more (through image costs r) (num side k (to r))) →
-        IsGreatestAt place s stack
+        IsStraight place s stack
     jumping : (goal : ℕ) → IsUnit image place (Jump (Some goal)) → IsOpen image cert costs goal s stack →
-        Are place stack (λ side k. more (extra image costs place + cost_of costs class.Jump) (num side k goal)) → IsGreatestAt place s stack
+        Are place stack (λ side k. more (extra image costs place + cost_of costs class.Jump) (num side k goal)) → IsStraight place s stack
     branching : (goal : ℕ) → IsUnit image place (Branch (Some goal)) → IsOpen image cert costs goal s stack →
-        IsOpen image cert costs (behind image place) s stack →
-        Are place stack (branched place goal) → IsGreatestAt place s stack
-    entering : (j : ℕ) → instr_at image place ≡ Some (instr.Abrt j) →
-        Are place stack (λ side k. more (cost_of costs class.Abrt) (num side k (place + 1))) → IsGreatestAt place s stack
-    leaving : instr_at image place ≡ Some instr.Leave → Are place stack (left place stack) → IsGreatestAt place s stack
-    pausing : instr_at image place ≡ Some instr.Eot → Are place stack (λ side k. more (cost_of costs class.Eot) (resting stack k side)) →
-        IsGreatestAt place s stack
-    forking : (lo count : ℕ) → instr_at image place ≡ Some (instr.Fork lo count) →
-        Are place stack (λ side k. more (cost_of costs class.Fork) (grouping place lo count stack k side)) → IsGreatestAt place s stack
-    ending : instr_at image place ≡ Some instr.End → Are place stack (λ side k. ended side) → IsGreatestAt place s stack
+        IsOpen image cert costs (behind image place) s stack → Are place stack (branched place goal) → IsStraight place s stack
+
+  -- the numbers of an open place, by its word
+  abbrev pub IsGreatestWith : Option Instr → ℕ → ℕ → List ℕ → Type 0
+  IsGreatestWith (Some (instr.Abrt j)) place s stack = Are place stack (λ side k. more (cost_of costs class.Abrt) (num side k (place + 1)))
+  IsGreatestWith (Some instr.Leave) place s stack = Are place stack (left place stack)
+  IsGreatestWith (Some instr.Eot) place s stack = Are place stack (λ side k. more (cost_of costs class.Eot) (resting stack k side))
+  IsGreatestWith (Some (instr.Fork lo count)) place s stack =
+      Are place stack (λ side k. more (cost_of costs class.Fork) (grouping place lo count stack k side))
+  IsGreatestWith (Some instr.End) place s stack = Are place stack (λ side k. ended side)
+  IsGreatestWith other place s stack = IsStraight place s stack
 
   -- a condition of straight code, which `cend` closes
   pub record IsStraightCondition (place : ℕ) : Type 0 where
@@ -140,7 +143,7 @@ module _ (image : Parts) (cert : CertParts) (costs : List ℕ) where
       begins image cert costs ToPause 0 ∷ begins image cert costs ToEnd 0 ∷ resumed image cert costs ToPause 0 ∷ resumed image cert costs ToEnd 0 ∷ []
 
   pub record IsGreatest : Type 0 where
-    pub place : (place s : ℕ) (stack : List ℕ) → IsOpen image cert costs place s stack → IsGreatestAt place s stack
+    pub place : (place s : ℕ) (stack : List ℕ) → IsOpen image cert costs place s stack → IsGreatestWith (instr_at image place) place s stack
     pub condition : (place : ℕ) → IsTrue (is_cond (line_at cert.lines place)) → upper_at image cert.lines place ≡ None →
         IsStraightCondition place
     pub slot : (s : ℕ) (side : Side) →
@@ -156,4 +159,11 @@ GreatestIsWorst =
 -- It holds the conditions on what is resumed and on the bound.
 abbrev pub BeginningsAreCovered : Type 0
 BeginningsAreCovered =
-    (image : Parts) (cert : CertParts) (costs : List ℕ) → IsGreatest image cert costs → AllHold (resuming image cert costs ++ bounded image cert costs)
+    (image : Parts) (cert : CertParts) (costs : List ℕ) → IsGreatest image cert costs →
+    AllHold (resuming image cert costs ++ bounded image cert costs)
+
+-- Where its shape holds as well, it holds the conditions on pauses and forks.
+abbrev pub RestsAreCovered : Type 0
+RestsAreCovered =
+    (image : Parts) (cert : CertParts) (costs : List ℕ) → IsCert cert → AllHold (shape image cert) → IsGreatest image cert costs →
+    AllHold (pauses image cert costs ++ forks image cert costs)

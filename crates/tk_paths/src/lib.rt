@@ -6,7 +6,7 @@
 #![tactic(auto)]
 
 ghost use Rattle.tk_paths.specs.Tight.{TightIsWorst};
-ghost use Rattle.tk_paths.specs.Greatest.{BeginningsAreCovered, GreatestIsWorst};
+ghost use Rattle.tk_paths.specs.Greatest.{BeginningsAreCovered, GreatestIsWorst, RestsAreCovered};
 ghost use Rattle.tk_paths.specs.Regions.{RegionsAreCrossed, RegionsArePassages};
 
 /// The bound of a certificate that is accepted and tight is the worst of its image: some free tick costs just as much, and
@@ -35,4 +35,9 @@ pub fn a_greatest_bound_is_worst()
 /// Such numbers hold the conditions of acceptance on what is resumed and on the bound.
 pub fn greatest_numbers_cover_beginnings()
     ensures { BeginningsAreCovered }
+{}
+
+/// Where the shape of a certificate holds as well, such numbers hold the conditions of acceptance on pauses and forks.
+pub fn greatest_numbers_cover_rests()
+    ensures { RestsAreCovered }
 {}

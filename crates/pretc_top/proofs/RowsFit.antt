@@ -3,8 +3,7 @@ use Rattle.std.proofs.Common.{◌≡◌, ℕ, zero, suc, ◌+◌, ◌-◌, ◌^�
 use Rattle.std.specs.Int.{w32}
 use Rattle.std.proofs.lemmas.List.Elements.{All-cons, All-nil}
 use Rattle.pt_trace.specs.Trace.{Line, Reading, Row, Refused, reading, counted, numbers, before, number, natural, signed_up_to, content, words, lines}
-use Rattle.pt_trace.specs.Rows.{rows_from, onto}
-use Rattle.pt_trace.specs.declared.rows.Rows.{Rows}
+use Rattle.pt_trace.specs.Rows.{Rows, rows_from, onto}
 
 -- a row of this width, of words
 abbrev pub IsWordRow : ℕ → List ℤ → Type 0

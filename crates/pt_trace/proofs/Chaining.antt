@@ -5,9 +5,7 @@ use Rattle.std.proofs.lemmas.Grind.{flat_map-append}
 use Rattle.std.specs.Io.KnownBytes.{Keeps, IsAtEnd, prepend_known}
 use Rattle.pt_trace.specs.Trace as trace
 use Rattle.pt_trace.specs.Trace.{Line, lines, Reading, Row, reading}
-use Rattle.pt_trace.specs.Rows.{onto, rows_from}
-use Rattle.pt_trace.specs.declared.rows.BadLine.{BadLine}
-use Rattle.pt_trace.specs.declared.rows.Rows.{Rows}
+use Rattle.pt_trace.specs.Rows.{BadLine, Rows, onto, rows_from}
 use Rattle.pt_trace.specs.Next.{Reader, unread, bytes_of, Gives, Begins, IsOver, GaveRow, MetEnd, RefusedLine, MetFault}
 use Rattle.pt_trace.specs.Given.{AreFirst, Begin, HasLines, GiveRows, AllEnded, HasGiven, IsWhole, IsBad, IsCut, HasRead}
 use Rattle.pt_trace.specs.Readings.{begun, BeginsWithNone, GivesOneMore, EndsWithAll, EndedWithAll, RefusesTheFirst, FailsAfterWhole, PullsFew, PulledFew}

@@ -4,4 +4,3 @@ mod Decimals
 mod Keeping
 pub mod Chaining
 mod Scanning
-mod CutLine

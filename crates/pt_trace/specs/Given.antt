@@ -4,8 +4,7 @@ use Rattle.std.specs.Prelude.{◌≡◌, ◌≤◌, ◌+◌, ℕ, ℤ, true, fal
 use Rattle.std.specs.List.{flat_map, AllByRecursion}
 use Rattle.std.specs.Io.KnownBytes.{IsAtEnd, Keeps, prepend_known}
 use Rattle.pt_trace.specs.Trace.{Line, lines}
-use Rattle.pt_trace.specs.Rows.{rows_from}
-use Rattle.pt_trace.specs.declared.rows.BadLine.{BadLine}
+use Rattle.pt_trace.specs.Rows.{BadLine, rows_from}
 use Rattle.pt_trace.specs.Next.{Reader, unread, line_feed, bytes_of, IsOver}
 
 -- the bytes are those of these lines, and then those after them

@@ -10,4 +10,3 @@ pub mod Given
 pub mod Next
 pub mod Pulling
 pub mod Readings
-pub mod Pulled

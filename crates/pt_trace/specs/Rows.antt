@@ -1,7 +1,16 @@
 -- The rows of a trace up to its first bad line: docs/files.md, "The trace".
-use Rattle.std.specs.Prelude.{ℕ, ◌+◌, List, [], ◌∷◌, Some, None}
-use Rattle.pt_trace.specs.Trace.{Line, lines, Reading, Row, Refused, reading}
-use Rattle.pt_trace.specs.declared.rows.Rows.{Rows}
+use Rattle.std.specs.Prelude.{ℕ, ◌+◌, ℤ, List, [], ◌∷◌, Option, Some, None}
+use Rattle.pt_trace.specs.Trace.{Line, Reading, Row, Refused, reading}
+
+-- the first line that is refused: the number of its rule, as 1 for T1, and its own, from 1
+pub record BadLine : Type 0 where
+  pub rule : ℕ
+  pub line : ℕ
+
+-- the rows of inputs up to the first bad line, and that line where there is one
+pub record Rows : Type 0 where
+  pub rows : List (List ℤ)
+  pub bad : Option BadLine
 
 -- what line k gives, before what the lines after it give
 abbrev pub onto : ℕ → Reading → Rows → Rows
@@ -12,7 +21,3 @@ onto k (Refused rule) after = record { rows = []; bad = Some (record { rule = ru
 abbrev pub rows_from : ℕ → ℕ → List Line → Rows
 rows_from width k [] = record { rows = []; bad = None }
 rows_from width k (l ∷ ls) = onto k (reading width k l) (rows_from width (k + 1) ls)
-
--- the rows of a trace, and its first bad line where there is one; lines are numbered from 1
-abbrev pub rows_of : ℕ → List ℕ → Rows
-rows_of width bytes = rows_from width 1 (lines bytes)

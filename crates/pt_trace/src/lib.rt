@@ -1,9 +1,8 @@
 //! The trace that a program runs on and the report that it gives.
 //!
 //! A `TraceReader` reads a trace from a source line by line, in a fixed table of 2,048 bytes, exactly by
-//! `docs/files.md`, "The trace": `next` gives the next row, the end, or the first line that is refused. `pull_all` and
-//! `read_rows` take and read a whole trace. The calls on
-//! a `LineBuffer` write the lines of a report, of a check, of an accepted program and of a refusal, exactly by
+//! `docs/files.md`, "The trace": `next` gives the next row, the end, or the first line that is refused. The calls on a
+//! `LineBuffer` write the lines of a report, of a check, of an accepted program and of a refusal, exactly by
 //! `docs/commands.md`, "The report", "check", "rules" and "Statuses". None of them takes memory.
 #![tactic(auto)]
 
@@ -12,20 +11,16 @@ mod gather;
 mod kept;
 mod laws;
 mod line;
-mod pull;
 mod reader;
 mod refused;
 mod report;
-mod rows;
 #[cfg(test)]
 mod tests;
 mod verdict;
 
 pub use accepted::accepted_line;
 pub use laws::readings;
-pub use pull::{Ending, Pulled, pull_all};
 pub use reader::{TraceFault, TraceReader};
 pub use refused::{refused_line, trace_line, trap_line};
 pub use report::{LineBuffer, bound_line, report_line, ticks_line, worst_line};
-pub use rows::{BadLine, Rows, read_rows};
 pub use verdict::{cert_line, image_line, no_line, yes_line};

@@ -5,23 +5,14 @@ use Rattle.pt_base.specs.declared.operators.UnOp.{UnOp}
 use Rattle.pt_base.specs.declared.operators.BinOp.{BinOp}
 use Rattle.pc_meaning.specs.Values.{Store, word_at, element_at, with_element, set_all}
 use Rattle.pc_meaning.specs.Runs.{words_at}
+-- places, steps and tests as they are kept in memory
+use Rattle.pc_ir.specs.declared.nodes.Place.{Place}
+use Rattle.pc_ir.specs.declared.nodes.Place.TheVariants.{Temp as temp, Held as held}
+use Rattle.pc_ir.specs.declared.nodes.Step.{Step}
+use Rattle.pc_ir.specs.declared.nodes.Step.TheVariants.{Const as const, Load as load, Save as save, Unary as unary_step, Binary as binary_step, TakeElement as take_element, PutElement as put_element, Move as move}
+use Rattle.pc_ir.specs.declared.nodes.Test.{Test}
 
 -- ---- steps
-
--- where a word is kept beside the store
-pub data Place : Type 0 where
-  temp : ℕ → Place
-  held : ℕ → Place
-
-pub data Step : Type 0 where
-  const : (to : Place) (word : ℤ) → Step
-  load : (to : Place) (word : ℕ) → Step
-  save : (word : ℕ) (by : Place) → Step
-  unary_step : UnOp → (to by : Place) → Step
-  binary_step : BinOp → (to left right : Place) → Step
-  take_element : (to : Place) (first size : ℕ) (index : Place) → Step
-  put_element : (first size : ℕ) (index by : Place) → Step
-  move : (to by : Place) → Step
 
 abbrev pub same_place : Place → Place → Bool
 same_place (temp a) (temp b) = nat_eq a b
@@ -60,11 +51,6 @@ run [] w = w
 run (s ∷ steps) w = run steps (step s w)
 
 -- ---- nodes
-
--- steps, and the place that is looked at after them
-pub record Test : Type 0 where
-  pub steps : List Step
-  pub by : Place
 
 abbrev pub tested : Test → State → State
 tested test w = run test.steps w

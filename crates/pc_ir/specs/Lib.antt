@@ -1,2 +1,3 @@
 pub mod Flow
 pub mod Residuals
+pub mod Trees

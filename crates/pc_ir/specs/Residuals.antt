@@ -1,6 +1,7 @@
 -- What a node can leave, one rule per node.
 use Rattle.std.specs.Prelude.{◌≡◌, ℕ, false, List, [], ◌∷◌, Option, slice_get, unwrap_or}
-use Rattle.pc_ir.specs.Flow.{Test, Node, Nodes, sequence, branch, turns, pause, fork, guard, no_nodes, and, Rest, Rests, at, ahead, within, group, nobody, over, going, all_over, End, Through, Halted}
+use Rattle.pc_ir.specs.declared.nodes.Test.{Test}
+use Rattle.pc_ir.specs.Flow.{Node, Nodes, sequence, branch, turns, pause, fork, guard, no_nodes, and, Rest, Rests, at, ahead, within, group, nobody, over, going, all_over, End, Through, Halted}
 
 abbrev pub body_at : List Node → ℕ → Node
 body_at bodies f = unwrap_or (slice_get bodies f) (sequence no_nodes)

@@ -7,3 +7,15 @@ pub mod Whole
 pub mod Temporaries
 pub mod Words
 pub mod Listing
+pub mod Placed
+pub mod Spelled
+pub mod Nestings
+pub mod Apart
+pub mod Ordered
+pub mod Fitting
+pub mod Threads
+pub mod Frames
+pub mod Promised
+pub mod Few
+pub mod Weighed
+pub mod Lasting

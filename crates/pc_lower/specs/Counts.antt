@@ -5,7 +5,12 @@ use Rattle.pt_base.specs.declared.operators.UnOp.TheVariants.{Neg, Not, Flip}
 use Rattle.pt_base.specs.declared.operators.BinOp.{BinOp}
 use Rattle.pt_base.specs.declared.operators.BinOp.TheVariants.{Or, And, BitOr, BitXor, BitAnd, Equal, NotEqual, Less, LessEqual, Greater, GreaterEqual, ShiftLeft, ShiftRight, Add, Sub, Mul, Div, Rem}
 use Rattle.pc_meaning.specs.Tree.{Expression, Operands, number, cell, element, unary, chain, alone, operand, Goal, nowhere, to_cell, to_element, Statement, Statements, skip, assign, call_of, block, if_so, repeat, loop, eot, par, abort, none, each, Routine}
-use Rattle.pc_ir.specs.Flow.{Place, temp, held, Step, const, load, save, unary_step, binary_step, take_element, put_element, move, Test, Node, Nodes, straight, sequence, branch, turns, bounded, call, pause, fork, guard, no_nodes, and}
+use Rattle.pc_ir.specs.declared.nodes.Place.{Place}
+use Rattle.pc_ir.specs.declared.nodes.Place.TheVariants.{Temp as temp, Held as held}
+use Rattle.pc_ir.specs.declared.nodes.Step.{Step}
+use Rattle.pc_ir.specs.declared.nodes.Step.TheVariants.{Const as const, Load as load, Save as save, Unary as unary_step, Binary as binary_step, TakeElement as take_element, PutElement as put_element, Move as move}
+use Rattle.pc_ir.specs.declared.nodes.Test.{Test}
+use Rattle.pc_ir.specs.Flow.{Node, Nodes, straight, sequence, branch, turns, bounded, call, pause, fork, guard, no_nodes, and}
 
 -- ---- temporaries
 
@@ -62,6 +67,10 @@ LocalsNested (l ∷ locals) = SomeNested l.1 × LocalsNested locals
 abbrev pub RoutineNested : Routine → Type 0
 RoutineNested r = LocalsNested r.locals × StatementsNested r.body × SomeNested r.result
 
+abbrev pub RoutinesNested : List Routine → Type 0
+RoutinesNested [] = Unit {0}
+RoutinesNested (r ∷ rest) = RoutineNested r × RoutinesNested rest
+
 module _ (most : ℕ) where
   abbrev pub PlaceWithin : Place → Type 0
   PlaceWithin (temp k) = k < most
@@ -103,6 +112,14 @@ module _ (most : ℕ) where
     pub NodesWithin : Nodes → Type 0
     NodesWithin no_nodes = Unit {0}
     NodesWithin (and n nodes) = NodeWithin n × NodesWithin nodes
+
+  abbrev pub BodiesWithin : List Node → Type 0
+  BodiesWithin [] = Unit {0}
+  BodiesWithin (n ∷ rest) = NodeWithin n × BodiesWithin rest
+
+  abbrev pub ConditionsWithin : List (Bool × Test) → Type 0
+  ConditionsWithin [] = Unit {0}
+  ConditionsWithin (a ∷ rest) = TestWithin a.1 × ConditionsWithin rest
 
 -- how many temporaries a value takes
 abbrev mutual

@@ -4,3 +4,4 @@ pub mod Sound
 pub mod Laws
 pub mod Order
 pub mod Counts
+pub mod Loops

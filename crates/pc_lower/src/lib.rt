@@ -1,15 +1,16 @@
 //! From a program to its flow.
 //!
 //! The definition is `specs/Lowered.antt`. Its contract: the flow of a program shows in each tick what the program means,
-//! whatever the temporaries hold at first (`a_flow_is_correct`), and each function and each residual does in the flow what
-//! it does in the program (`lowering_keeps_start_and_resume`). What a program must keep for that is `specs/Sound.antt`. The
-//! other laws count temporaries and words.
+//! whatever the temporaries hold at first, in 652 temporaries, and in words and passages that are within those that the
+//! program is weighed with. `a_flow_is_correct` and `lowering_keeps_start_and_resume` say so of every program that keeps what
+//! `specs/Sound.antt` asks, and `a_typed_program_fits` that each program with numbers for names does.
 #![tactic(auto)]
 
 mod laws;
 
 pub use laws::{
-    a_flow_is_correct, a_passage_is_within_its_number, a_typed_flow_is_correct, aborts_are_listed,
-    lowering_keeps_start_and_resume, steps_leave_the_value, temporaries_are_few,
-    words_are_within_the_weight,
+    a_flow_is_correct, a_passage_is_within_its_number, a_typed_flow_is_correct,
+    a_typed_flow_is_few, a_typed_program_fits, aborts_are_listed, lowering_keeps_start_and_resume,
+    rules_on_loops_hold_of_the_tree, steps_leave_the_value, temporaries_are_few,
+    weights_are_those_of_the_language, words_are_within_the_weight,
 };

@@ -10,7 +10,9 @@ use Rattle.mb_pfu.proofs.Cases.{split, or-left-false, or-right-false}
 use Rattle.pt_image.specs.declared.Parts.{Parts}
 use Rattle.pt_image.specs.Listed.{is_listed}
 use Rattle.mb_step.specs.Free.{numbers_of, IsOfLine, AreOfLines, IsLoose, AreAtRest, HasLoose, IsConfiguration}
-use Rattle.pc_ir.specs.Flow.{Step, Test, Node, Nodes, Rest, Rests, all_over, Flow, Flows, is_weak, flows_of, Position, Fresh, Waits as WaitsAt, Stopped}
+use Rattle.pc_ir.specs.declared.nodes.Step.{Step}
+use Rattle.pc_ir.specs.declared.nodes.Test.{Test}
+use Rattle.pc_ir.specs.Flow.{Node, Nodes, Rest, Rests, all_over, Flow, Flows, is_weak, flows_of, Position, Fresh, Waits as WaitsAt, Stopped}
 use Rattle.pc_ir.specs.Residuals.{body_at, Of, OfAll, OfThreads, of_list, of_first, of_second, of_turns, of_pause, of_guard, of_fork, of_last, of_head, of_tail, of_nobody, of_over, of_going}
 use Rattle.pc_region.specs.Slots.{AreChildren, Under, self, Fits, FitsGroup, Runs}
 use Rattle.pc_region.specs.Places.{place_in, line_in, fork_place, first_child, line, slot_start, watch, Has}

@@ -4,7 +4,8 @@ use Rattle.std.specs.Prelude.{unwrap_or}
 use Rattle.std.specs.List.{AllByRecursion}
 use Rattle.std.proofs.lemmas.Option.{slice_get_past}
 use Rattle.pc_meaning.proofs.Lookups.{slice_get_front, slice_get_middle}
-use Rattle.pc_ir.specs.Flow.{State, Test, tested, decides, Node, Nodes, straight, sequence, branch, turns, bounded, call, pause, fork, guard, no_nodes, and, End, Through, Halted, state_of, then_do, in_guard, work, settle, looping, Flows, flow_at, begins, go, go_all, flows_from, flows_of}
+use Rattle.pc_ir.specs.declared.nodes.Test.{Test}
+use Rattle.pc_ir.specs.Flow.{State, tested, decides, Node, Nodes, straight, sequence, branch, turns, bounded, call, pause, fork, guard, no_nodes, and, End, Through, Halted, state_of, then_do, in_guard, work, settle, looping, Flows, flow_at, begins, go, go_all, flows_from, flows_of}
 use Rattle.pc_ir.specs.Residuals.{body_at}
 use Rattle.pc_region.specs.Program.{IsEarlier, AreEarlier, InOrder}
 

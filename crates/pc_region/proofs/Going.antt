@@ -10,7 +10,9 @@ use Rattle.pt_image.specs.declared.Parts.{Parts}
 use Rattle.mb_step.specs.Control.{Control}
 use Rattle.mb_step.specs.Step.{Rules}
 use Rattle.mb_step.specs.Free.{numbers_of}
-use Rattle.pc_ir.specs.Flow.{Step, Test, tested, decides, Node, Nodes, straight, sequence, branch, turns, bounded, call, pause, fork, guard, no_nodes, and, End, Through, Halted, state_of, then_do, in_guard, work, Flows, flow_at, begins, go, go_all, State as FlowState, at as at_pause, settle as flow_settle}
+use Rattle.pc_ir.specs.declared.nodes.Step.{Step}
+use Rattle.pc_ir.specs.declared.nodes.Test.{Test}
+use Rattle.pc_ir.specs.Flow.{tested, decides, Node, Nodes, straight, sequence, branch, turns, bounded, call, pause, fork, guard, no_nodes, and, End, Through, Halted, state_of, then_do, in_guard, work, Flows, flow_at, begins, go, go_all, State as FlowState, at as at_pause, settle as flow_settle}
 use Rattle.pc_region.specs.Slots.{AreChildren, FitsGroup, IsGood}
 use Rattle.pc_region.specs.Places.{place_in, fork_place, first_child, watch, Has}
 use Rattle.pc_region.specs.Laid.{Placing, Laid, LaidAll}

@@ -7,7 +7,9 @@ use Rattle.mb_isa.proofs.CostRange.{cost_of-range}
 use Rattle.mb_pfu.specs.Tree.{Tree}
 use Rattle.pt_image.specs.declared.Parts.{Parts}
 use Rattle.mb_step.specs.Tick.{base_of}
-use Rattle.pc_ir.specs.Flow.{Step, Test, Node, Nodes, straight, sequence, branch, turns, bounded, call, pause, fork, guard, no_nodes, and, Rest, Rests, Flow, Flows, is_weak, flows_of, Position, Fresh, Waits, Stopped}
+use Rattle.pc_ir.specs.declared.nodes.Step.{Step}
+use Rattle.pc_ir.specs.declared.nodes.Test.{Test}
+use Rattle.pc_ir.specs.Flow.{Node, Nodes, straight, sequence, branch, turns, bounded, call, pause, fork, guard, no_nodes, and, Rest, Rests, Flow, Flows, is_weak, flows_of, Position, Fresh, Waits, Stopped}
 use Rattle.pc_ir.specs.Residuals.{body_at, Of, OfAll, OfThreads, of_list, of_first, of_second, of_turns, of_pause, of_guard, of_fork, of_last, of_head, of_tail, of_nobody, of_over, of_going}
 use Rattle.pc_region.specs.Slots.{Runs}
 use Rattle.pc_region.specs.Laid.{Placing, Laid, LaidAll}

@@ -9,7 +9,8 @@ use Rattle.mb_pfu.specs.Contexts.{Context, plug, middle}
 use Rattle.pt_image.specs.declared.Parts.{Parts}
 use Rattle.mb_step.specs.Control.{Turn, goes}
 use Rattle.mb_step.specs.Step.{Rules}
-use Rattle.pc_ir.specs.Flow.{Test, tested, decides, End, state_of, looping, State as FlowState}
+use Rattle.pc_ir.specs.declared.nodes.Test.{Test}
+use Rattle.pc_ir.specs.Flow.{tested, decides, End, state_of, looping, State as FlowState}
 use Rattle.pc_region.specs.Slots.{IsGood}
 use Rattle.pc_region.specs.Places.{Has, HasLoop, wide_loop, short_loop}
 use Rattle.pc_region.specs.Law.{Nesting, with_counter, unit_at, placed, Comes}

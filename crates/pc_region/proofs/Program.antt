@@ -6,7 +6,9 @@ use Rattle.mb_pfu.specs.Contexts.{middle}
 use Rattle.pt_image.specs.declared.Parts.{Parts}
 use Rattle.mb_step.specs.Step.{Rules}
 use Rattle.mb_step.specs.Free.{numbers_of}
-use Rattle.pc_ir.specs.Flow.{Step, Test, Node, Nodes, straight, sequence, branch, turns, bounded, call, pause, fork, guard, no_nodes, and, Through, state_of, Flows, flow_at, go, flows_of, State as FlowState}
+use Rattle.pc_ir.specs.declared.nodes.Step.{Step}
+use Rattle.pc_ir.specs.declared.nodes.Test.{Test}
+use Rattle.pc_ir.specs.Flow.{Node, Nodes, straight, sequence, branch, turns, bounded, call, pause, fork, guard, no_nodes, and, Through, state_of, Flows, flow_at, go, flows_of, State as FlowState}
 use Rattle.pc_ir.specs.Residuals.{body_at}
 use Rattle.pc_region.specs.Slots.{AreChildren, Runs}
 use Rattle.pc_region.specs.Places.{first_child, slot_start}

@@ -9,7 +9,9 @@ use Rattle.mb_pfu.specs.Contexts.{Context, plug, middle, climb}
 use Rattle.pt_image.specs.declared.Parts.{Parts}
 use Rattle.mb_step.specs.Control.{Control}
 use Rattle.mb_step.specs.Step.{Rules}
-use Rattle.pc_ir.specs.Flow.{Step, Test, Node, Nodes, turns, no_nodes, and, Rest, Rests, ahead, within, group, End, Through, Halted, then_do, fired_or_in_guard, all_over, Flows, go_all, again, agains, State as FlowState}
+use Rattle.pc_ir.specs.declared.nodes.Step.{Step}
+use Rattle.pc_ir.specs.declared.nodes.Test.{Test}
+use Rattle.pc_ir.specs.Flow.{Node, Nodes, turns, no_nodes, and, Rest, Rests, ahead, within, group, End, Through, Halted, then_do, fired_or_in_guard, all_over, Flows, go_all, again, agains, State as FlowState}
 use Rattle.pc_ir.specs.Residuals.{body_at, Of, OfAll, OfThreads, of_list, of_first, of_second, of_turns, of_pause, of_guard, of_fork, of_last, of_head, of_tail, of_nobody, of_over, of_going}
 use Rattle.pc_region.specs.Slots.{AreChildren, Fits, FitsGroup, IsGood, Runs}
 use Rattle.pc_region.specs.Places.{place_in, line_in, fork_place, first_child, line, slot_start, watch, Has}

@@ -12,7 +12,9 @@ use Rattle.mb_step.specs.Step.{Rules, samples_on, samples_from}
 use Rattle.mb_step.specs.Tick.{Ends as TickEnds, Trapped, base_of, begun, run as tick_run, Steps, still, onward}
 use Rattle.mb_pfu.specs.declared.TrapKind.TheVariants.{Late}
 use Rattle.mb_step.proofs.Turning.{goes_on}
-use Rattle.pc_ir.specs.Flow.{Step, Test, Node, Rest, End, Through, flow_at, again, flows_of, State as FlowState}
+use Rattle.pc_ir.specs.declared.nodes.Step.{Step}
+use Rattle.pc_ir.specs.declared.nodes.Test.{Test}
+use Rattle.pc_ir.specs.Flow.{Node, Rest, End, Through, flow_at, again, flows_of, State as FlowState}
 use Rattle.pc_ir.specs.Residuals.{body_at, Of}
 use Rattle.pc_region.specs.Slots.{Fits}
 use Rattle.pc_region.specs.Places.{slot_start}

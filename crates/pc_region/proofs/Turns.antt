@@ -17,7 +17,9 @@ use Rattle.mb_step.specs.Words.{Plan, Rest as RestPlan, Refuse, Go, Work, Branch
 use Rattle.mb_step.specs.Step.{Rules, Stepped, Moves, Rests, Traps, Undecided, worked, decided, branched, concluded, stepped, step}
 use Rattle.mb_step.specs.Tick.{Ends as TickEnds, run as tick_run, Steps, still, onward}
 use Rattle.mb_step.proofs.Turning.{goes_on, is_over}
-use Rattle.pc_ir.specs.Flow.{Step, Test, Node, End, Through, Halted, state_of, flow_at, again, flows_of, State as FlowState}
+use Rattle.pc_ir.specs.declared.nodes.Step.{Step}
+use Rattle.pc_ir.specs.declared.nodes.Test.{Test}
+use Rattle.pc_ir.specs.Flow.{Node, End, Through, Halted, state_of, flow_at, again, flows_of, State as FlowState}
 use Rattle.pc_ir.specs.Residuals.{body_at}
 use Rattle.pc_region.specs.Slots.{Fits}
 use Rattle.pc_region.specs.Places.{slot_start}

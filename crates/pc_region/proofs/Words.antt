@@ -12,7 +12,9 @@ use Rattle.mb_step.specs.Control.{Who, Turn, Condition, Control, phase_at, job_i
 use Rattle.mb_step.specs.Words.{Plan, Branch, Refuse, is_barred, goes_to, branched, plan_of, plan_decoded, plan_word, plan_for}
 use Rattle.mb_step.specs.Step.{Rules, Moves, worked, decided, branched as data_branched, stepped, step}
 use Rattle.mb_step.specs.Tick.{Steps, still, onward}
-use Rattle.pc_ir.specs.Flow.{Step, Test, tested, decides, run, State as FlowState}
+use Rattle.pc_ir.specs.declared.nodes.Step.{Step}
+use Rattle.pc_ir.specs.declared.nodes.Test.{Test}
+use Rattle.pc_ir.specs.Flow.{tested, decides, run, State as FlowState}
 use Rattle.pc_region.specs.Places.{line, Has, LeadsTo}
 use Rattle.pc_region.specs.Counts.{Sizes}
 use Rattle.pc_region.specs.Law.{Comes, Laws}

@@ -4,7 +4,9 @@ use Rattle.mb_pfu.specs.Tree.{Tree, Leaf, Running, Finished}
 use Rattle.pt_image.specs.declared.Parts.{Parts}
 use Rattle.mb_step.specs.Step.{Rules}
 use Rattle.mb_step.specs.Tick.{Ends as TickEnds, base_of, tick}
-use Rattle.pc_ir.specs.Flow.{State, Step, Test, decides, tested, Flow, abort_at, is_weak, Position, Fresh, Waits, Stopped, point_of, goes, sampled}
+use Rattle.pc_ir.specs.declared.nodes.Step.{Step}
+use Rattle.pc_ir.specs.declared.nodes.Test.{Test}
+use Rattle.pc_ir.specs.Flow.{State, decides, tested, Flow, abort_at, is_weak, Position, Fresh, Waits, Stopped, point_of, goes, sampled}
 use Rattle.pc_ir.specs.Residuals.{body_at, Of}
 use Rattle.pc_region.specs.Slots.{Fits}
 use Rattle.pc_region.specs.Places.{slot_start, line}

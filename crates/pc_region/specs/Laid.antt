@@ -2,7 +2,9 @@
 use Rattle.std.specs.Prelude.{◌≡◌, ℕ, ◌+◌, ◌<◌, ◌≤◌, ◌++◌, length, Bool, List, [], ◌∷◌, Option, Some, None, slice_get}
 use Rattle.mb_isa.specs.declared.Instr.TheVariants.{Fork, Eot, Abrt, Leave, Call, Next, Drop}
 use Rattle.pt_image.specs.declared.Parts.{Parts}
-use Rattle.pc_ir.specs.Flow.{State, Step, Test, Node, Nodes, straight, sequence, branch, turns, bounded, call, pause, fork, guard, no_nodes, and, Rest, Through, Halted, state_of, Flows, go}
+use Rattle.pc_ir.specs.declared.nodes.Step.{Step}
+use Rattle.pc_ir.specs.declared.nodes.Test.{Test}
+use Rattle.pc_ir.specs.Flow.{State, Node, Nodes, straight, sequence, branch, turns, bounded, call, pause, fork, guard, no_nodes, and, Rest, Through, Halted, state_of, Flows, go}
 use Rattle.pc_region.specs.Slots.{AreChildren, Runs}
 use Rattle.pc_region.specs.Places.{Has, HasJump, HasLoop}
 

@@ -11,7 +11,9 @@ use Rattle.mb_step.specs.Control.{Control, Turn, goes, turns_on}
 use Rattle.mb_step.specs.Step.{Rules}
 use Rattle.mb_step.specs.Tick.{Steps}
 use Rattle.mb_step.specs.Free.{numbers_of}
-use Rattle.pc_ir.specs.Flow.{State, Step, Test, run, decides, tested, Node, Nodes, straight, sequence, branch, turns, bounded, call, pause, fork, guard, no_nodes, and, Rest, End, Through, Halted, state_of, Flows, flow_at, again}
+use Rattle.pc_ir.specs.declared.nodes.Step.{Step}
+use Rattle.pc_ir.specs.declared.nodes.Test.{Test}
+use Rattle.pc_ir.specs.Flow.{State, run, decides, tested, Node, Nodes, straight, sequence, branch, turns, bounded, call, pause, fork, guard, no_nodes, and, Rest, End, Through, Halted, state_of, Flows, flow_at, again}
 use Rattle.pc_region.specs.Slots.{Fits, IsGood}
 use Rattle.pc_region.specs.Places.{slot_start, first_child, Has}
 use Rattle.pc_region.specs.Standing.{Stands, woken}

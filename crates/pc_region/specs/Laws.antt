@@ -5,7 +5,9 @@ use Rattle.pt_image.specs.declared.Parts.{Parts}
 use Rattle.mb_step.specs.Tick.{base_of}
 use Rattle.mb_step.specs.Cells.{Cells, machine}
 use Rattle.mb_step.specs.Free.{IsConfiguration}
-use Rattle.pc_ir.specs.Flow.{State, Step, Test, Node, Rest, Flow, Position, sampled}
+use Rattle.pc_ir.specs.declared.nodes.Step.{Step}
+use Rattle.pc_ir.specs.declared.nodes.Test.{Test}
+use Rattle.pc_ir.specs.Flow.{State, Node, Rest, Flow, Position, sampled}
 use Rattle.pc_region.specs.Slots.{Fits}
 use Rattle.pc_region.specs.Standing.{Stands}
 use Rattle.pc_region.specs.Laid.{Placing}

@@ -1,6 +1,8 @@
 -- The sizes that count what each function takes with all that it calls and starts.
 use Rattle.std.specs.Prelude.{ℕ, zero, suc, ◌+◌, ◌≤◌, List}
-use Rattle.pc_ir.specs.Flow.{Step, Test, Node}
+use Rattle.pc_ir.specs.declared.nodes.Step.{Step}
+use Rattle.pc_ir.specs.declared.nodes.Test.{Test}
+use Rattle.pc_ir.specs.Flow.{Node}
 use Rattle.pc_ir.specs.Residuals.{body_at}
 use Rattle.pc_region.specs.Counts.{Sizes, through, reach}
 use Rattle.pc_region.specs.Bounds.{span}

@@ -8,7 +8,9 @@ use Rattle.pt_image.specs.declared.Parts.{Parts}
 use Rattle.mb_step.specs.Control.{Who, goes}
 use Rattle.mb_step.specs.Words.{Work, Branch, is_barred, branched, plan_of}
 use Rattle.mb_step.specs.Step.{Rules}
-use Rattle.pc_ir.specs.Flow.{State, Step, Test, run, decides, tested}
+use Rattle.pc_ir.specs.declared.nodes.Step.{Step}
+use Rattle.pc_ir.specs.declared.nodes.Test.{Test}
+use Rattle.pc_ir.specs.Flow.{State, run, decides, tested}
 use Rattle.pc_region.specs.Places.{Has, LeadsTo}
 
 -- a word, alone or behind an `imm`

@@ -129,30 +129,41 @@ pub fn first_wrong<'a>(alloc: Global, rows: &'a str) -> Option<&'a str> {
     Some("")
 }
 
-/// The same, where a row `SECTION NUMBER: TEXT => ANSWER` alters a line of the certificate of the last row above it that is whole.
-pub fn first_wrong_change<'a>(alloc: Global, rows: &'a str) -> Option<&'a str> {
-    let mut base = "";
+// The first row `SECTION/NUMBER: TEXT => ANSWER` that isn't so where it alters a line of this certificate, or an empty text.
+fn first_wrong_change<'a>(alloc: Global, base: &str, rows: &'a str) -> Option<&'a str> {
     for row in rows.lines() {
         let (label, rest) = row.split_once(": ")?;
-        let (case, wanted) = rest.split_once(" => ")?;
-        let none = Change {
-            section: "",
-            number: 0,
-            text: "",
-        };
-        let change = match label.split_once('/') {
-            None => {
-                base = case;
-                none
-            }
-            Some((section, number)) => Change {
-                section,
-                number: number.parse::<usize>().ok()?,
-                text: case,
-            },
+        let (text, wanted) = rest.split_once(" => ")?;
+        let (section, number) = label.split_once('/')?;
+        let change = Change {
+            section,
+            number: number.parse::<usize>().ok()?,
+            text,
         };
         if !answers(alloc, base, &change, wanted)? {
+            return Some(row);
+        }
+    }
+    Some("")
+}
+
+/// The same over groups of rows, each a certificate and rows that alter it.
+pub fn first_wrong_of_groups<'a>(alloc: Global, groups: &'a str) -> Option<&'a str> {
+    let none = Change {
+        section: "",
+        number: 0,
+        text: "",
+    };
+    for group in groups.split('%') {
+        let (head, rows) = group.split_once('\n')?;
+        let (label, rest) = head.split_once(": ")?;
+        let (base, wanted) = rest.split_once(" => ")?;
+        if !answers(alloc, base, &none, wanted)? {
             return Some(label);
+        }
+        let wrong = first_wrong_change(alloc, base, rows)?;
+        if !wrong.is_empty() {
+            return Some(wrong);
         }
     }
     Some("")

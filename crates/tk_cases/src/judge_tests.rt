@@ -1,4 +1,4 @@
-use crate::cases::{first_wrong, first_wrong_change};
+use crate::cases::{first_wrong, first_wrong_of_groups};
 use crate::number_rows::NUMBERS;
 use crate::shape_rows::{ORDERS, ROUTINES, THREADS, WORKED};
 use std::test::Fail;
@@ -18,7 +18,7 @@ fn each_sentence_on_the_shape(rt: HostRuntime) -> Result<(), Fail> {
 
 #[test]
 fn each_number_one_less(rt: HostRuntime) -> Result<(), Fail> {
-    assert_eq!(rt; first_wrong_change(rt.alloc(), NUMBERS), Some(""));
+    assert_eq!(rt; first_wrong_of_groups(rt.alloc(), NUMBERS), Some(""));
     Ok(())
 }
 

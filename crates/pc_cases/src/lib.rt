@@ -1,5 +1,5 @@
 //! Tests of the front over whole sources, row by row: trees, places of refusal, numbers of names, canonical texts, small
-//! programs.
+//! programs; and of the meaning: what whole programs show tick by tick.
 //!
 //! `printed` and `small_program` keep the tree to themselves, for the tests here and above. They promise nothing, so that
 //! a test knows no more of a source than what it compares.
@@ -9,6 +9,8 @@
 mod expression_tests;
 #[cfg(test)]
 mod limit_tests;
+#[cfg(test)]
+mod meaning_tests;
 #[cfg(test)]
 mod name_tests;
 #[cfg(test)]

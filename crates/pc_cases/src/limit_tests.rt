@@ -138,3 +138,16 @@ fn sources_have_their_limit(rt: HostRuntime) -> Result<(), Fail> {
     assert_eq!(rt; blanks(alloc, 1_048_564)?.as_str(), "Z1 1048576 1048576");
     Ok(())
 }
+
+#[test]
+fn tokens_and_grammar_come_first(rt: HostRuntime) -> Result<(), Fail> {
+    let alloc = rt.alloc();
+    assert_eq!(rt; verdict(alloc, b"void main() { EOT")?.as_str(), "S1 17 17");
+    assert_eq!(rt;
+        verdict(alloc, b"void main() { EOT $")?.as_str(),
+        "L1 18 19"
+    );
+    assert_eq!(rt; verdict(alloc, b"int 4294967296;")?.as_str(), "L2 4 14");
+    assert_eq!(rt; verdict(alloc, b"/* int x;")?.as_str(), "L3 0 2");
+    Ok(())
+}

@@ -1,6 +1,6 @@
 use crate::shown;
 use pc_lex::{Tokens, lex};
-use pc_source::source_of;
+use pc_verdict::source_of;
 use pt_base::{MOST_SOURCE_BYTES, Memory, Refusal, Rule, Text};
 use std::alloc::Global;
 use std::test::Fail;

@@ -1,6 +1,6 @@
 use pc_print::print;
 use pc_small::{Small, small_of};
-use pc_source::source_of;
+use pc_verdict::source_of;
 use pt_base::{Memory, Refusal, Text};
 use std::alloc::Global;
 

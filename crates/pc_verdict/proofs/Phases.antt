@@ -3,7 +3,7 @@ use Rattle.std.proofs.Common.{◌≡◌, ℕ, List, Result, Err, subst}
 use Rattle.pt_base.specs.declared.Refusal.{Refusal}
 use Rattle.pt_base.specs.declared.Refusal.TheVariants.{Broken, Memory}
 use Rattle.pc_grammar.specs.Trees.{Program}
-use Rattle.pc_source.specs.Sources.{IsSource, IsRead}
+use Rattle.pc_verdict.specs.Sources.{IsSource, IsRead}
 use Rattle.pc_typed.specs.Typing.{Typing}
 use Rattle.pc_names.specs.Resolving.{Resolves, IsResolved}
 use Rattle.pc_rules.specs.Judging.{IsJudged}

@@ -6,7 +6,7 @@ use Rattle.pt_base.specs.declared.Span.{Span}
 use Rattle.pt_base.specs.declared.Refusal.{Refusal}
 use Rattle.pt_base.specs.declared.Refusal.TheVariants.{Broken, Memory}
 use Rattle.pc_grammar.specs.Trees.{Program}
-use Rattle.pc_source.specs.Sources.{IsSource, Breaks}
+use Rattle.pc_verdict.specs.Sources.{IsSource, Breaks}
 use Rattle.pc_typed.specs.Breaking as names
 use Rattle.pc_typed.specs.Typing.{Typing}
 use Rattle.pc_names.specs.Resolving.{Resolves}

@@ -1,9 +1,9 @@
 ghost use Rattle.pc_verdict.specs.Verdicts.{IsJudgedText};
 
+use crate::sources::source_of;
 use pc_grammar::Program;
 use pc_names::resolve;
 use pc_rules::judge;
-use pc_source::source_of;
 use pc_typed::Typed;
 use pt_base::{Refusal, Text};
 use std::alloc::Global;

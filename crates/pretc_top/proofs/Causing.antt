@@ -6,7 +6,7 @@ use Rattle.pt_image.specs.declared.image.Parts.{Parts}
 use Rattle.pt_image.specs.Text.{text_of}
 use Rattle.pt_outside.specs.Files.{Holds, Lacks}
 use Rattle.pt_outside.specs.Told.{ShelfTold}
-use Rattle.pc_source.specs.Sources as source
+use Rattle.pc_verdict.specs.Sources as source
 use Rattle.pc_verdict.specs.Verdicts.{BreaksFirst}
 use Rattle.pretc_run.specs.declared.endings.Ending.{Ending}
 use Rattle.pretc_run.specs.declared.endings.Ending.TheVariants.{Done, Refused, Usage, ReadFault, WantOfMemory, BadImage, BadCert, NotAccepted, StoreFault, NotBuilt, NoFile}

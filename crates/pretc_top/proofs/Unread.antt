@@ -4,7 +4,7 @@ use Rattle.pt_outside.specs.Files.{Holds}
 use Rattle.pt_outside.specs.Told.{ShelfTold}
 use Rattle.pt_base.specs.declared.Refusal.{Refusal}
 use Rattle.pt_base.specs.declared.Refusal.TheVariants.{Broken, Memory}
-use Rattle.pc_source.specs.Sources.{Breaks, IsRead}
+use Rattle.pc_verdict.specs.Sources.{Breaks, IsRead}
 use Rattle.pc_verdict.specs.Verdicts.{BreaksFirst, IsJudgedText}
 use Rattle.pretc_run.specs.declared.endings.Ending.{Ending}
 use Rattle.pretc_top.specs.Refusing.{ending_of}

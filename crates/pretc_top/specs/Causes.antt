@@ -9,7 +9,7 @@ use Rattle.tk_cert.specs.declared.CertParts.{CertParts}
 use Rattle.tk_bound.specs.Bounded.{BoundsFreeTicks, BoundsRuns}
 use Rattle.pt_base.specs.declared.Rule.{Rule}
 use Rattle.pt_base.specs.declared.Span.{Span}
-use Rattle.pc_source.specs.Sources.{Breaks}
+use Rattle.pc_verdict.specs.Sources.{Breaks}
 use Rattle.pc_verdict.specs.Verdicts.{BreaksFirst}
 use Rattle.pretc_run.specs.Writing.{Wrote}
 use Rattle.pretc_top.specs.declared.commands.Command.{Command}

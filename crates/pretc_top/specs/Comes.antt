@@ -1,7 +1,7 @@
 -- What a call comes to, whatever its words: docs/commands.md.
 use Rattle.std.specs.Prelude.{◌≡◌, ℕ, List, [], ◌∷◌, Option, Some, None}
 use Rattle.pt_outside.specs.Told.{SinkTold}
-use Rattle.pc_source.specs.Sources as source
+use Rattle.pc_verdict.specs.Sources as source
 use Rattle.pc_verdict.specs.Verdicts.{BreaksFirst}
 use Rattle.pretc_run.specs.declared.endings.Ending.{Ending}
 use Rattle.pretc_run.specs.declared.endings.Ending.TheVariants.{Usage}

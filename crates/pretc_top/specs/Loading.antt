@@ -6,7 +6,7 @@ use Rattle.pt_outside.specs.Counts.{Rose}
 use Rattle.pt_outside.specs.Files.{Files, KeepsFiles, Holds, Lacks}
 use Rattle.pt_outside.specs.Told.{ShelfTold}
 use Rattle.pc_grammar.specs.Trees.{Program}
-use Rattle.pc_source.specs.Sources.{IsSource}
+use Rattle.pc_verdict.specs.Sources.{IsSource}
 use Rattle.pc_typed.specs.Typing.{Typing}
 use Rattle.pc_verdict.specs.Verdicts.{IsAccepted}
 use Rattle.pretc_run.specs.declared.endings.Ending.{Ending}

@@ -9,7 +9,7 @@ use Rattle.pt_trace.specs.Trace.{lines}
 use Rattle.pt_trace.specs.Next.{bytes_of}
 use Rattle.pt_trace.specs.Accepted.{accepted_line}
 use Rattle.pc_grammar.specs.Trees.{Program}
-use Rattle.pc_source.specs.Sources.{IsSource}
+use Rattle.pc_verdict.specs.Sources.{IsSource}
 use Rattle.pc_print.specs.Canonical.{program_text}
 use Rattle.pc_typed.specs.Typing.{Typing}
 use Rattle.pc_weights.specs.Weights.{program_weight, program_single}

@@ -1,7 +1,7 @@
 ghost use Rattle.std.specs.Prelude.{◌≡◌, IfOk, IfErr, OnOk};
 ghost use Rattle.pt_outside.specs.Files.{Holds};
 ghost use Rattle.pt_image.specs.Text.{text_of};
-ghost use Rattle.pc_source.specs.Sources.{Breaks};
+ghost use Rattle.pc_verdict.specs.Sources.{Breaks};
 ghost use Rattle.pc_verdict.specs.Verdicts.{BreaksFirst};
 ghost use Rattle.pretc_top.specs.Loading.{IsAsBefore, LoadFails, ProgramFails, IsLoaded, IsTaken};
 ghost use Rattle.pretc_top.specs.Refusing as spec;
@@ -9,8 +9,7 @@ ghost use Rattle.pretc_top.specs.Go.{IsBuilt, BuildFails, IsStored, StoreFails};
 
 use pc_compile::compile;
 use pc_grammar::Program;
-use pc_source::source_of;
-use pc_verdict::{Accepted, judged};
+use pc_verdict::{Accepted, judged, source_of};
 use pretc_run::Ending;
 use pt_base::{Refusal, Text};
 use pt_image::Image;

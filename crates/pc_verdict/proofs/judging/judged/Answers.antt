@@ -1,7 +1,7 @@
 use Rattle.std.proofs.Common.{Result, subst}
 use Rattle.pt_base.specs.declared.Refusal.{Refusal}
 use Rattle.pc_grammar.specs.Trees.{Program}
-use Rattle.pc_source.specs.Sources.{IsRead}
+use Rattle.pc_verdict.specs.Sources.{IsRead}
 use Rattle.pc_typed.specs.Typing.{Typing}
 use Rattle.pc_names.specs.Resolving.{IsResolved}
 use Rattle.pc_verdict.proofs.Phases.{source_refused, names_refused, rules_refused}

@@ -1,7 +1,7 @@
 use Rattle.std.proofs.Common.{◌≤◌, ℕ, List, length, subst}
 use Rattle.pt_base.specs.declared.limits.TheConstants.{MOST_SOURCE_BYTES}
-use Rattle.pc_source.proofs.Readings.{unlexed, parsed}
-use Rattle.pc_source.proofs.sources.source_of.Goals as goal
+use Rattle.pc_verdict.proofs.Readings.{unlexed, parsed}
+use Rattle.pc_verdict.proofs.sources.source_of.Goals as goal
 
 pub returns-in-Ok : goal.returns-in-Ok
 returns-in-Ok c =

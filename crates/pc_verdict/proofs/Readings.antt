@@ -7,7 +7,7 @@ use Rattle.pc_lex.specs.Lexing as lexing
 use Rattle.pc_grammar.specs.Programs.{IsProgram, IsBroken, RefusedIn}
 use Rattle.pc_grammar.specs.Trees.{Program}
 use Rattle.pt_base.specs.declared.limits.TheConstants.{MOST_SOURCE_BYTES}
-use Rattle.pc_source.specs.Sources.{no_tokens, no_program, IsRead}
+use Rattle.pc_verdict.specs.Sources.{no_tokens, no_program, IsRead}
 
 pub unlexed : (text : List ℕ) (f : Refusal) → length text ≤ MOST_SOURCE_BYTES → lexing.RefusedIn text f → IsRead text (Err f)
 unlexed text (Broken rule span) short l = no_tokens (l.0) short (l.1)

@@ -1,5 +1,5 @@
 ghost use Rattle.std.specs.Prelude.{◌≡◌};
-ghost use Rattle.pc_source.specs.Sources.{IsRead};
+ghost use Rattle.pc_verdict.specs.Sources.{IsRead};
 
 use pc_grammar::Program;
 use pc_lex::lex;

@@ -1,5 +1,0 @@
-//! Whole programs, and what they show tick by tick.
-#![tactic(auto)]
-
-#[cfg(test)]
-mod tests;

@@ -175,7 +175,15 @@ fn images_with_forks_aborts_loops_and_routines_are_checked(rt: HostRuntime) -> R
             "no A1 at 2 level 0 needed 0 given 0\n"
         )?
     );
-    assert!(rt; answers(alloc, FORKS, FORKS_CERT, 9, "no A2 at 1 level 0 needed 0 given 0\n")?);
+    assert!(rt;
+        answers(
+            alloc,
+            FORKS,
+            FORKS_CERT,
+            9,
+            "no A2 at 1 level 0 needed 0 given 0\n"
+        )?
+    );
     Ok(())
 }
 

@@ -2,11 +2,11 @@ ghost use Rattle.std.specs.Prelude.{◌≡◌, option_map};
 ghost use Rattle.pt_lines.specs.Reading.{Gives, many_at};
 ghost use Rattle.tk_cert.specs.Reading.{place_at, plain_at, state_at, choice_at, choices_at, walk_at};
 
+use crate::cert::{State, Walk};
 use crate::line::TOO_LARGE;
 use pt_base::Many;
 use pt_lines::{Unread, count_line, number_then, past};
 use std::alloc::Global;
-use crate::cert::{State, Walk};
 
 // A place behind a blank with its line feed, and what follows them.
 #[tactic(auto, unfolding(crate::specs::Reading::place_at))]

@@ -1,12 +1,11 @@
 ghost use Rattle.std.specs.Prelude.{◌≡◌, ◌++◌, IfOk, OnOk};
 ghost use Rattle.tk_cert.specs.Text.{text_of, walk_text};
 
-use crate::cert::Cert;
+use crate::cert::{Cert, Walk};
 use crate::writing::{put_choices, put_lines, put_slots, put_states, put_weights};
 use pt_base::{Memory, Text};
 use pt_lines::put_count;
 use std::alloc::{AllocError, Global};
-use crate::cert::Walk;
 
 // Puts a walk at the end.
 #[tactic(auto, using(crate::proofs::Putting::in_order))]

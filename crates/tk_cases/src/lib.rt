@@ -14,3 +14,5 @@ mod limit_tests;
 mod number_rows;
 #[cfg(test)]
 mod shape_rows;
+#[cfg(test)]
+mod walk_tests;

@@ -1,11 +1,10 @@
 -- Where a flow stands the unit is in a configuration.
-use Rattle.std.proofs.Common.{◌≡◌, ◌⊎◌, ℕ, ◌+◌, ◌<◌, ◌≤◌, ◌++◌, ◌==◌, ◌||◌, Bool, true, false, List, [], ◌∷◌, length, slice_get, Some, refl, sym, ap, ◌∙◌, subst, inl, inr, arith}
-use Rattle.std.specs.List.{AllByRecursion}
+use Rattle.std.proofs.Common.{◌≡◌, ℕ, ◌+◌, ◌<◌, ◌≤◌, ◌++◌, ◌==◌, Bool, true, false, List, [], ◌∷◌, length, slice_get, Some, refl, sym, ap, ◌∙◌, subst, inl, inr, arith}
 use Rattle.mb_isa.specs.Candidates.{decoded}
 use Rattle.mb_isa.specs.declared.Instr.TheVariants.{Fork}
 use Rattle.mb_pfu.specs.declared.parts.Watch.{Watch}
 use Rattle.mb_pfu.specs.Rows.{numbered}
-use Rattle.mb_pfu.specs.Tree.{Tree, Group, Leaf, Waits, no_more, member, Running, Pausing, Finished, size, is_in, is_among, one, tally, tally_group}
+use Rattle.mb_pfu.specs.Tree.{Tree, Group, Leaf, Waits, no_more, member, size, is_in, is_among, one, tally, tally_group}
 use Rattle.mb_pfu.proofs.Cases.{split, or-left-false, or-right-false}
 use Rattle.pt_image.specs.declared.Parts.{Parts}
 use Rattle.pt_image.specs.Listed.{is_listed}
@@ -14,8 +13,8 @@ use Rattle.pc_ir.specs.declared.nodes.Step.{Step}
 use Rattle.pc_ir.specs.declared.nodes.Test.{Test}
 use Rattle.pc_ir.specs.Flow.{Node, Nodes, Rest, Rests, all_over, Flow, Flows, is_weak, flows_of, Position, Fresh, Waits as WaitsAt, Stopped}
 use Rattle.pc_ir.specs.Residuals.{body_at, Of, OfAll, OfThreads, of_list, of_first, of_second, of_turns, of_pause, of_guard, of_fork, of_last, of_head, of_tail, of_nobody, of_over, of_going}
-use Rattle.pc_region.specs.Slots.{AreChildren, Under, self, Fits, FitsGroup, Runs}
-use Rattle.pc_region.specs.Places.{place_in, line_in, fork_place, first_child, line, slot_start, watch, Has}
+use Rattle.pc_region.specs.Slots.{Fits, FitsGroup, Runs}
+use Rattle.pc_region.specs.Places.{place_in, line_in, fork_place, first_child, line, slot_start, watch}
 use Rattle.pc_region.specs.Standing.{Stands, StandAll}
 use Rattle.pc_region.specs.Slotwise.{members, is_of, is_of_all}
 use Rattle.pc_region.specs.Laid.{Placing, Laid, LaidAll}

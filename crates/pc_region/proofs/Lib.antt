@@ -22,3 +22,4 @@ pub mod Threads
 pub mod Limits
 pub mod Slotwise
 pub mod Configured
+pub mod Runs

@@ -1,8 +1,8 @@
 -- No tick of an image is charged more than 1,000,000,000,000, within the limits of the language.
-use Rattle.std.proofs.Common.{◌≡◌, ℕ, zero, suc, ◌+◌, ◌*◌, ◌<◌, ◌≤◌, ◌++◌, max, Bool, List, [], ◌∷◌, length, length-append, Option, Some, None, refl, sym, ap, ◌∙◌, subst, mul-le-mul_right, mul-le-mul_left, ◌-◌, arith}
+use Rattle.std.proofs.Common.{◌≡◌, ℕ, zero, suc, ◌+◌, ◌*◌, ◌<◌, ◌≤◌, ◌++◌, Bool, List, [], ◌∷◌, length, length-append, refl, ap, subst, mul-le-mul_right, mul-le-mul_left, ◌-◌, arith}
 use Rattle.std.specs.List.{AllByRecursion}
 use Rattle.mb_isa.specs.declared.Class.TheVariants as class
-use Rattle.mb_isa.specs.Costs.{IsCosts, cost_of}
+use Rattle.mb_isa.specs.Costs.{cost_of}
 use Rattle.mb_isa.proofs.CostRange.{cost_of-range}
 use Rattle.mb_pfu.specs.Tree.{Tree}
 use Rattle.pt_image.specs.declared.Parts.{Parts}
@@ -13,7 +13,7 @@ use Rattle.pc_ir.specs.Flow.{Node, Nodes, straight, sequence, branch, turns, bou
 use Rattle.pc_ir.specs.Residuals.{body_at, Of, OfAll, OfThreads, of_list, of_first, of_second, of_turns, of_pause, of_guard, of_fork, of_last, of_head, of_tail, of_nobody, of_over, of_going}
 use Rattle.pc_region.specs.Slots.{Runs}
 use Rattle.pc_region.specs.Laid.{Placing, Laid, LaidAll}
-use Rattle.pc_region.specs.Counts.{Sizes, total_of, total, option_words, through, through_all, reach, tick_in}
+use Rattle.pc_region.specs.Counts.{Sizes, total_of, option_words, through, through_all, reach, tick_in}
 use Rattle.pc_region.specs.Program.{IsEarlier, AreEarlier, HasRoom, HaveRoom}
 use Rattle.pc_region.specs.Tests.{tests_in, tests_in_all}
 use Rattle.pc_region.specs.Words.{HasSteps, HasTest, Writing}
@@ -22,7 +22,7 @@ use Rattle.pc_region.specs.Bounds.{span, span_all, depth, depth_all, forks_in, f
 use Rattle.pc_region.specs.Limits.{threads_of, threads_of_all, started_by, times_in, times_below, sum_below, without_threads, passage, IsWithinLimits}
 use Rattle.pc_region.proofs.Earlier.{earlier}
 use Rattle.pc_region.proofs.Bounds.{worst_is, reach-span}
-use Rattle.pc_region.proofs.Threads.{total-append, all-append, all-as, all-both, all-less, total-mono, below-more, sum-more, one-less, not-below, sums}
+use Rattle.pc_region.proofs.Threads.{total-append, all-append, all-as, all-both, all-less, total-mono, below-more, sum-more, one-less, sums}
 
 -- ---- nodes
 

@@ -1,11 +1,11 @@
 -- The sizes of functions count what these take.
-use Rattle.std.proofs.Common.{◌≡◌, ℕ, zero, suc, ◌+◌, ◌*◌, ◌<◌, ◌≤◌, List, [], ◌∷◌, Some, None, refl, ap, arith}
+use Rattle.std.proofs.Common.{◌≡◌, ℕ, zero, suc, ◌+◌, ◌*◌, ◌<◌, List, [], ◌∷◌, Some, None, refl, ap, arith}
 use Rattle.std.specs.List.{AllByRecursion}
 use Rattle.pc_ir.specs.declared.nodes.Step.{Step}
 use Rattle.pc_ir.specs.declared.nodes.Test.{Test}
 use Rattle.pc_ir.specs.Flow.{Node, Nodes, straight, sequence, branch, turns, bounded, call, pause, fork, guard, no_nodes, and}
 use Rattle.pc_ir.specs.Residuals.{body_at}
-use Rattle.pc_region.specs.Counts.{Sizes, total_of, option_words, through, through_all}
+use Rattle.pc_region.specs.Counts.{Sizes, total_of, through, through_all}
 use Rattle.pc_region.specs.Program.{IsEarlier, AreEarlier, InOrder}
 use Rattle.pc_region.specs.Bounds.{span, span_all}
 use Rattle.pc_region.specs.Sizing.{sizes_to, sizes_of, Count}

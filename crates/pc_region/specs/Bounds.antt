@@ -1,5 +1,5 @@
 -- Simple bounds of how many steps what is left of a node takes.
-use Rattle.std.specs.Prelude.{ℕ, ◌+◌, ◌*◌, max, List, [], ◌∷◌}
+use Rattle.std.specs.Prelude.{ℕ, ◌+◌, ◌*◌, max, List}
 use Rattle.pc_ir.specs.Flow.{Node, Nodes, straight, sequence, branch, turns, bounded, call, pause, fork, guard, no_nodes, and, Rest}
 use Rattle.pc_ir.specs.Residuals.{Of, OfAll, of_list, of_first, of_second, of_turns, of_pause, of_guard, of_fork, of_last, of_head, of_tail}
 use Rattle.pc_region.specs.Counts.{Sizes, total_of, total, option_words, through, through_all, all_in}

@@ -5,9 +5,10 @@ use Rattle.pt_image.specs.declared.Parts.{Parts}
 use Rattle.mb_step.specs.Tick.{base_of}
 use Rattle.mb_step.specs.Cells.{Cells, machine}
 use Rattle.mb_step.specs.Free.{IsConfiguration}
+use Rattle.mb_step.specs.Run.{run_of}
 use Rattle.pc_ir.specs.declared.nodes.Step.{Step}
 use Rattle.pc_ir.specs.declared.nodes.Test.{Test}
-use Rattle.pc_ir.specs.Flow.{State, Node, Rest, Flow, Position, sampled}
+use Rattle.pc_ir.specs.Flow.{State, Temps, Node, Rest, Flow, Position, sampled}
 use Rattle.pc_region.specs.Slots.{Fits}
 use Rattle.pc_region.specs.Standing.{Stands}
 use Rattle.pc_region.specs.Laid.{Placing}
@@ -18,6 +19,7 @@ use Rattle.pc_region.specs.Words.{Writing, DataLaws}
 use Rattle.pc_region.specs.Image.{IsImageOf, StandsAt, steps_at, TickIs}
 use Rattle.pc_region.specs.Sizing.{sizes_of, Count}
 use Rattle.pc_region.specs.Limits.{IsWithinLimits}
+use Rattle.pc_region.specs.Runs.{IsSteady, RunLaws, AreTicksOf, beginning}
 use Rattle.pc_region.specs.Slotwise.{StandsSlotwise}
 
 -- registers and memory stand for a state where all these comparisons of the two hold
@@ -48,6 +50,16 @@ TicksAreLimited =
     IsImageOf parent image costs f writing sizes placing → IsWithinLimits image f writing sizes →
     (p : Position) (t : Tree) (stands : StandsAt parent image f p t) →
     base_of image costs + 255 * steps_at parent image f writing sizes p t stands ≤ 1000000000000
+
+-- For every list of input rows, every cost table and every limit from 1,000,000,000,000 cycles on, the run of an image of a flow
+-- is the run of the flow.
+abbrev pub RunsAreThoseOfTheFlow : Type 0
+RunsAreThoseOfTheFlow =
+    (parent : ℕ → ℕ) (image : Parts) (costs : List ℕ) (f : Flow) (writing : Writing) (sizes : Sizes) (placing : Placing)
+    (compared : ℕ → Cells → State → Bool) (kept : Position → Bool) (most : ℕ) →
+    IsImageOf parent image costs f writing sizes placing → IsWithinLimits image f writing sizes →
+    RunLaws image f writing (Agree compared) → IsSteady f (λ p. IsTrue (kept p)) → 1000000000000 ≤ most →
+    (temps : Temps) (rows : List (List ℤ)) → AreTicksOf parent image f (beginning f temps) rows (run_of image costs most rows)
 
 -- Wherever a flow stands between two ticks, the unit is in a configuration: so what is said of all free ticks is said of its ticks.
 abbrev pub FlowsStandInConfigurations : Type 0

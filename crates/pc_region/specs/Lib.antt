@@ -13,5 +13,6 @@ pub mod Bounds
 pub mod Image
 pub mod Sizing
 pub mod Limits
+pub mod Runs
 pub mod Slotwise
 pub mod Laws

@@ -2,14 +2,15 @@
 //! that holds a flow does what the flow does in that tick.
 //!
 //! It is said once over `mb_step`, for any data and any surroundings. Read `Slots`, `Places`, `Standing`, `Laid`, `Counts`, `Law`,
-//! `Program`, `Turns`, `Tests`, `Ticks`, `Words`, `Image`, `Bounds`, `Sizing`, `Limits`, `Slotwise` and `Laws` in `specs/` in
-//! this order. `Laid` says where the words of a node stand, `Standing` where the slots of a residual do; `Law` says what it is
-//! that code does what is meant; `Image` says when an image is that of a flow. What is left to whoever uses it are the laws of
-//! the data (`DataLaws`) and that an image is laid out so (`IsImageOf`). The functions below do nothing: their contracts are
-//! the laws.
+//! `Program`, `Turns`, `Tests`, `Ticks`, `Words`, `Image`, `Bounds`, `Sizing`, `Limits`, `Slotwise`, `Runs` and `Laws`
+//! in `specs/` in this order. `Laid` says where the words of a node stand, `Standing` where the slots of a residual do; `Law`
+//! says what it is that code does what is meant; `Image` says when an image is that of a flow. What is left to whoever uses it
+//! are the laws of the data (`DataLaws`) and that an image is laid out so (`IsImageOf`). The functions below do nothing: their
+//! contracts are the laws.
 #![tactic(auto)]
 
-ghost use Rattle.pc_region.specs.Laws.{TicksAreThoseOfTheFlow, SizesAreThere, TicksAreLimited, FlowsStandInConfigurations, SlotsStandAsTheResidual};
+ghost use Rattle.pc_region.specs.Laws.{TicksAreThoseOfTheFlow, SizesAreThere, TicksAreLimited};
+ghost use Rattle.pc_region.specs.Laws.{RunsAreThoseOfTheFlow, FlowsStandInConfigurations, SlotsStandAsTheResidual};
 
 /// Each tick of an image of a flow does what the flow does in that tick: it ends where the flow stands then, with data for its
 /// state, and is charged at most 255 for each of so many steps; on every row of inputs, from wherever the flow stands, for
@@ -27,6 +28,12 @@ pub fn sizes_are_there()
 /// cost table.
 pub fn ticks_are_limited()
     ensures { TicksAreLimited }
+{}
+
+/// So for every list of input rows, every cost table and every limit from 1,000,000,000,000 cycles on, such an image never traps,
+/// its outputs are the flow's, and after each tick its slots stand where the flow stands.
+pub fn runs_are_those_of_the_flow()
+    ensures { RunsAreThoseOfTheFlow }
 {}
 
 /// Between two ticks the unit is in a configuration, so what is said of all free ticks is said of the ticks of a flow.

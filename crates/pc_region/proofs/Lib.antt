@@ -23,3 +23,4 @@ pub mod Limits
 pub mod Slotwise
 pub mod Configured
 pub mod Runs
+pub mod Example

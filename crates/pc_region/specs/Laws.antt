@@ -1,5 +1,6 @@
 -- The laws of this crate, at the machine's data.
-use Rattle.std.specs.Prelude.{ℕ, ℤ, ◌+◌, ◌*◌, ◌≤◌, length, Bool, IsTrue, List, []}
+use Rattle.std.specs.Prelude.{ℕ, ℤ, ◌+◌, ◌*◌, ◌≤◌, length, Bool, IsTrue, true, List, []}
+use Rattle.mb_isa.specs.Costs.{IsCosts}
 use Rattle.mb_pfu.specs.Tree.{Tree}
 use Rattle.pt_image.specs.declared.Parts.{Parts}
 use Rattle.mb_step.specs.Tick.{base_of}
@@ -21,6 +22,7 @@ use Rattle.pc_region.specs.Sizing.{sizes_of, Count}
 use Rattle.pc_region.specs.Limits.{IsWithinLimits}
 use Rattle.pc_region.specs.Runs.{IsSteady, RunLaws, AreTicksOf, beginning}
 use Rattle.pc_region.specs.Slotwise.{StandsSlotwise}
+use Rattle.pc_region.specs.Example as example
 
 -- registers and memory stand for a state where all these comparisons of the two hold
 abbrev pub Agree : (ℕ → Cells → State → Bool) → Cells → State → Type 0
@@ -72,3 +74,11 @@ FlowsStandInConfigurations =
 abbrev pub SlotsStandAsTheResidual : Type 0
 SlotsStandAsTheResidual =
     (parent : ℕ → ℕ) (image : Parts) (r : Rest) (t : Tree) → Stands image [] r t → Fits parent 0 t → StandsSlotwise image r t
+
+-- What these laws ask for can be met: all of it holds of the example.
+abbrev pub TheExampleMeetsThem : Type 0
+TheExampleMeetsThem =
+    (costs : List ℕ) → IsCosts costs →
+    IsImageOf example.parent example.image costs example.flow example.writing example.sizes example.placing
+    × IsWithinLimits example.image example.flow example.writing example.sizes
+    × ((row : List ℤ) → DataLaws (machine example.image row) (Agree (λ n d w. true)) (sampled example.flow row) example.writing)

@@ -15,4 +15,5 @@ pub mod Sizing
 pub mod Limits
 pub mod Runs
 pub mod Slotwise
+pub mod Example
 pub mod Laws

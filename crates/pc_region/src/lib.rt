@@ -2,7 +2,7 @@
 //! that holds a flow does what the flow does in that tick.
 //!
 //! It is said once over `mb_step`, for any data and any surroundings. Read `Slots`, `Places`, `Standing`, `Laid`, `Counts`, `Law`,
-//! `Program`, `Turns`, `Tests`, `Ticks`, `Words`, `Image`, `Bounds`, `Sizing`, `Limits`, `Slotwise`, `Runs` and `Laws`
+//! `Program`, `Turns`, `Tests`, `Ticks`, `Words`, `Image`, `Bounds`, `Sizing`, `Limits`, `Slotwise`, `Runs`, `Example` and `Laws`
 //! in `specs/` in this order. `Laid` says where the words of a node stand, `Standing` where the slots of a residual do; `Law`
 //! says what it is that code does what is meant; `Image` says when an image is that of a flow. What is left to whoever uses it
 //! are the laws of the data (`DataLaws`) and that an image is laid out so (`IsImageOf`). The functions below do nothing: their
@@ -10,7 +10,7 @@
 #![tactic(auto)]
 
 ghost use Rattle.pc_region.specs.Laws.{TicksAreThoseOfTheFlow, SizesAreThere, TicksAreLimited};
-ghost use Rattle.pc_region.specs.Laws.{RunsAreThoseOfTheFlow, FlowsStandInConfigurations, SlotsStandAsTheResidual};
+ghost use Rattle.pc_region.specs.Laws.{RunsAreThoseOfTheFlow, FlowsStandInConfigurations, SlotsStandAsTheResidual, TheExampleMeetsThem};
 
 /// Each tick of an image of a flow does what the flow does in that tick: it ends where the flow stands then, with data for its
 /// state, and is charged at most 255 for each of so many steps; on every row of inputs, from wherever the flow stands, for
@@ -45,4 +45,10 @@ pub fn flows_stand_in_configurations()
 /// child has ended or stands for its member of the group, and all other slots are free.
 pub fn slots_stand_as_the_residual()
     ensures { SlotsStandAsTheResidual }
+{}
+
+/// What these laws ask for can be met: an image of a flow with a routine, a bounded loop, a thread and a loop without a bound
+/// meets all of it.
+pub fn the_example_meets_them()
+    ensures { TheExampleMeetsThem }
 {}

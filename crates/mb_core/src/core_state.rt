@@ -150,6 +150,7 @@ impl Core {
     }
 
     // A conditional branch.
+    #[inline(always)]
     fn branch(
         &mut self,
         loaded: &Loaded,
@@ -224,25 +225,25 @@ impl Core {
         ensures kept { Keeps slot self.old.unit result self.new.unit }
     {
         match i {
-            Instr::Addk { .. } => self.work(loaded, costs, slot, place, i),
-            Instr::Rsubk { .. } => self.work(loaded, costs, slot, place, i),
-            Instr::Cmp { .. } => self.work(loaded, costs, slot, place, i),
-            Instr::Or { .. } => self.work(loaded, costs, slot, place, i),
-            Instr::And { .. } => self.work(loaded, costs, slot, place, i),
-            Instr::Xor { .. } => self.work(loaded, costs, slot, place, i),
-            Instr::Mul { .. } => self.work(loaded, costs, slot, place, i),
-            Instr::Idiv { .. } => self.work(loaded, costs, slot, place, i),
-            Instr::Bsrl { .. } => self.work(loaded, costs, slot, place, i),
-            Instr::Bsra { .. } => self.work(loaded, costs, slot, place, i),
-            Instr::Bsll { .. } => self.work(loaded, costs, slot, place, i),
-            Instr::Addik { .. } => self.work(loaded, costs, slot, place, i),
-            Instr::Ori { .. } => self.work(loaded, costs, slot, place, i),
-            Instr::Andi { .. } => self.work(loaded, costs, slot, place, i),
-            Instr::Xori { .. } => self.work(loaded, costs, slot, place, i),
-            Instr::Lw { .. } => self.work(loaded, costs, slot, place, i),
-            Instr::Sw { .. } => self.work(loaded, costs, slot, place, i),
-            Instr::Lwi { .. } => self.work(loaded, costs, slot, place, i),
-            Instr::Swi { .. } => self.work(loaded, costs, slot, place, i),
+            Instr::Addk { .. }
+            | Instr::Rsubk { .. }
+            | Instr::Cmp { .. }
+            | Instr::Or { .. }
+            | Instr::And { .. }
+            | Instr::Xor { .. }
+            | Instr::Mul { .. }
+            | Instr::Idiv { .. }
+            | Instr::Bsrl { .. }
+            | Instr::Bsra { .. }
+            | Instr::Bsll { .. }
+            | Instr::Addik { .. }
+            | Instr::Ori { .. }
+            | Instr::Andi { .. }
+            | Instr::Xori { .. }
+            | Instr::Lw { .. }
+            | Instr::Sw { .. }
+            | Instr::Lwi { .. }
+            | Instr::Swi { .. } => self.work(loaded, costs, slot, place, i),
             Instr::Imm { imm } => self.imm(loaded, costs, slot, place, imm),
             Instr::Bri { imm } => self.jump(loaded, costs, slot, place, imm),
             Instr::Beqi { imm, .. } => self.branch(loaded, costs, slot, place, i, imm),

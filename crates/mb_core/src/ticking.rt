@@ -5,7 +5,7 @@ ghost use Rattle.mb_step.specs.Control.{turns_on, tests_on};
 ghost use Rattle.mb_step.specs.Step.{samples_on};
 ghost use Rattle.mb_step.specs.Cells.{machine, outputs_of};
 ghost use Rattle.mb_core.specs.Going.{went, KeepsTurn};
-ghost use Rattle.mb_core.specs.Phases.{place_in, control_of, moved, IsPhase, IsMoved, IsAdvance, IsAfterTurn, IsRun, IsTick};
+ghost use Rattle.mb_core.specs.Phases.{slot_in, place_in, control_of, moved, IsPhase, IsMoved, IsAdvance, IsAfterTurn, IsRun, IsTick};
 
 use crate::core_state::Core;
 use crate::loading::Loaded;
@@ -20,6 +20,17 @@ fn place_in(phase: Phase) -> Option<u32>
     match phase {
         Phase::Testing(place) => Some(place),
         Phase::Running { place, .. } => Some(place),
+        Phase::Resting => None,
+    }
+}
+
+// The slot whose turn it is, in a turn.
+fn slot_in(phase: Phase) -> Option<u32>
+    ensures { result ≡ slot_in phase }
+{
+    match phase {
+        Phase::Testing(_) => None,
+        Phase::Running { s, .. } => Some(s),
         Phase::Resting => None,
     }
 }
@@ -79,16 +90,13 @@ impl Core {
         ensures step { IsAdvance loaded.now costs.now values.now phase self.old result self.new }
         ensures phase { IsMoved result self.new.unit }
     {
-        match phase {
-            Phase::Testing(_) => match self.step(loaded, costs, None, place) {
-                Err(kind) => Err(kind),
-                Ok(did) => Ok(self.after_test(loaded, values, did)),
+        match self.step(loaded, costs, slot_in(phase), place) {
+            Err(kind) => Err(kind),
+            Ok(did) => match phase {
+                Phase::Testing(_) => Ok(self.after_test(loaded, values, did)),
+                Phase::Running { s, .. } => Ok(self.after_turn(s, did)),
+                Phase::Resting => Err(TrapKind::Late),
             },
-            Phase::Running { s, .. } => match self.step(loaded, costs, Some(s), place) {
-                Err(kind) => Err(kind),
-                Ok(did) => Ok(self.after_turn(s, did)),
-            },
-            Phase::Resting => Err(TrapKind::Late),
         }
     }
 

@@ -112,8 +112,8 @@ printf 'int x=0;void main(){x=(1+2)*x;EOT;}' >tight.pc
 printf 'int x = 0;\nvoid main() {\n  x = (1 + 2) * x;\n  EOT;\n}\n' >wanted
 "$program" print tight.pc </dev/null >out; status=$?
 expect 0 wanted "the canonical text"
-line "not built"; printf '4\nx\n' | "$program" go "$first" im3 >out; status=$?
-expect 12 wanted "a bad line"; [ -e im3 ] || wrong "a bad line: no image"
+printf 'tick 0: 5 cycles 8\ntrace T1 line 2\n' >wanted; printf '4\nx\n' | "$program" go "$first" im3 >out; status=$?
+expect 7 wanted "a bad line"; [ -e im3 ] || wrong "a bad line: no image"
 head -c 1048577 /dev/zero | tr '\0' ' ' >long.pc
 line "refused Z1 1048576 1048576"; "$program" go long.pc im4 </dev/null >out; status=$?
 expect 1 wanted "a source of 1,048,577 bytes"
@@ -133,8 +133,8 @@ expect 8 wanted "a certificate without its last byte"
 expect 8 wanted "a certificate with one byte more"
 (cat "$image"; echo) >longim; line "image I10"; "$program" check longim "$cert" - </dev/null >out; status=$?
 expect 8 wanted "an image with one byte more"
-sed 's/^30630001$/ffffffff/' "$image" >odd; cp odd kept; line "not built"; "$program" check odd "$cert" - </dev/null >out; status=$?
-expect 12 wanted "a word that isn't plain"; cmp -s odd kept || wrong "a word that isn't plain: the image changed"
+sed 's/^30630001$/ffffffff/' "$image" >odd; cp odd kept; line "no A1 at 1 level 0 needed 0 given 0"; "$program" check odd "$cert" - </dev/null >out; status=$?
+expect 9 wanted "a word that is none"; cmp -s odd kept || wrong "a word that is none: the image changed"
 line "not built"; "$program" check "$image" "$cert" costs </dev/null >out; status=$?
 expect 12 wanted "a table of costs"
 line "no file"; "$program" check missing "$cert" - </dev/null >out; status=$?

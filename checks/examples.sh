@@ -135,8 +135,17 @@ expect 8 wanted "a certificate with one byte more"
 expect 8 wanted "an image with one byte more"
 sed 's/^30630001$/ffffffff/' "$image" >odd; cp odd kept; line "no A1 at 1 level 0 needed 0 given 0"; "$program" check odd "$cert" - </dev/null >out; status=$?
 expect 9 wanted "a word that is none"; cmp -s odd kept || wrong "a word that is none: the image changed"
-line "not built"; "$program" check "$image" "$cert" costs </dev/null >out; status=$?
-expect 12 wanted "a table of costs"
+line "no file"; "$program" check "$image" "$cert" costs </dev/null >out; status=$?
+expect 17 wanted "a missing table of costs"
+table="$top/examples/costs.toml"
+line "no A3 at 0 level 0 needed 5 given 4"; "$program" check "$image" "$cert" "$table" </dev/null >out; status=$?
+expect 9 wanted "a table of costs"
+grep -v '^tick' "$table" >lacking; line "costs C2 tick"; "$program" check "$image" "$cert" lacking </dev/null >out; status=$?
+expect 6 wanted "a table without a class"
+sed 's/^div = 32/div = 0/' "$table" >free; line "costs C3 div"; "$program" check "$image" "$cert" free </dev/null >out; status=$?
+expect 6 wanted "a class that costs nothing"
+(cat "$table"; echo 'tock = 1') >more; line "costs C4"; "$program" check "$image" "$cert" more </dev/null >out; status=$?
+expect 6 wanted "a table with one key more"
 line "no file"; "$program" check missing "$cert" - </dev/null >out; status=$?
 expect 17 wanted "a missing image"
 line "no file"; "$program" check "$image" missing - </dev/null >out; status=$?

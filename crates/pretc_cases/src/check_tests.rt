@@ -220,15 +220,50 @@ fn words_weights_and_loops_are_looked_at(rt: HostRuntime) -> Result<(), Fail> {
     Ok(())
 }
 
-#[test]
-fn a_table_of_costs_is_not_built_and_nothing_is_loaded(rt: HostRuntime) -> Result<(), Fail> {
-    let nothing = Outside {
-        image: None,
-        cert: None,
-        shelf_fails: &[0, 1],
-        ..files("", "")
+// A table where a pause costs 7 and each other class 1, without its last key.
+const TABLE: &str =
+    "alu = 1\nshift = 1\nmul = 1\ndiv = 1\nimm = 1\nload = 1\nstore = 1\njump = 1\ntaken = 1\nuntaken = 1\nfork = 1\neot = 7\nend = 1\nabrt = 1\nleave = 1\ncall = 1\nret = 1\nloop = 1\nnext = 1\ndrop = 1\ncend = 1\n";
+
+// Whether a check of the counter, under the table and what comes behind it, answers this status and this line.
+fn prices(alloc: Global, table: &str, rest: &str, status: u8, line: &str) -> Result<bool, Memory> {
+    let text = format!(in alloc; "{}{}", table, rest)?;
+    let outside = Outside {
+        program: Some(&text),
+        ..files(COUNTER, DEAR_CERT)
     };
-    assert!(rt; checks_so(rt.alloc(), "check im ce costs", nothing, 12, "not built\n")?);
+    checks_so(alloc, "check im ce p", outside, status, line)
+}
+
+#[test]
+fn a_table_of_costs_is_read_or_refused(rt: HostRuntime) -> Result<(), Fail> {
+    let alloc = rt.alloc();
+    assert!(rt; prices(alloc, TABLE, "tick = 1\n", 0, "yes bound 14 reached\n")?);
+    assert!(rt;
+        prices(
+            alloc,
+            TABLE,
+            "tick = 2\n",
+            9,
+            "no A7 at 0 level 0 needed 17 given 14\n"
+        )?
+    );
+    assert!(rt; prices(alloc, TABLE, "", 6, "costs C2 tick\n")?);
+    assert!(rt; prices(alloc, TABLE, "tick = 256\n", 6, "costs C3 tick\n")?);
+    assert!(rt; prices(alloc, TABLE, "tick = 1\ntock = 1\n", 6, "costs C4\n")?);
+    assert!(rt; prices(alloc, TABLE, "tick", 6, "costs C1\n")?);
+    let missing = files(COUNTER, DEAR_CERT);
+    assert!(rt; checks_so(alloc, "check im ce costs", missing, 17, "no file\n")?);
+    let unread = Outside {
+        program: Some("x"),
+        ..files(COUNTER, SHORT_CERT)
+    };
+    assert!(rt; checks_so(alloc, "check im ce p", unread, 8, "cert K6\n")?);
+    let failed = Outside {
+        program: Some("x"),
+        shelf_fails: &[2],
+        ..files(COUNTER, SHORT_CERT)
+    };
+    assert!(rt; checks_so(alloc, "check im ce p", failed, 3, "read fault\n")?);
     Ok(())
 }
 

@@ -1,6 +1,7 @@
 -- How a call ends: docs/commands.md, "Statuses".
 use Rattle.std.specs.Prelude.{ℕ, List, [], codes}
-use Rattle.pt_trace.specs.Refused.{refused_line, trace_line, trap_line}
+use Rattle.pt_trace.specs.Refused.{refused_line, trace_line, trap_line, costs_line, cost_line}
+use Rattle.tk_costs.specs.Reading.{key_of}
 use Rattle.pt_trace.specs.Verdict.{no_line, image_line, cert_line}
 use Rattle.pretc_run.specs.declared.endings.Ending.{Ending}
 use Rattle.pretc_run.specs.declared.endings.Ending.TheVariants as end
@@ -12,6 +13,8 @@ number_of (end.Refused rule span) = 1
 number_of end.Usage = 2
 number_of end.ReadFault = 3
 number_of end.WantOfMemory = 5
+number_of (end.BadCosts rule) = 6
+number_of (end.BadCost rule class) = 6
 number_of (end.BadTrace rule line) = 7
 number_of (end.BadImage number) = 8
 number_of (end.BadCert number) = 8
@@ -32,6 +35,8 @@ line_of (end.Refused rule span) = refused_line rule span.from span.to
 line_of end.Usage = codes "usage\n"
 line_of end.ReadFault = codes "read fault\n"
 line_of end.WantOfMemory = codes "want of memory\n"
+line_of (end.BadCosts rule) = costs_line rule
+line_of (end.BadCost rule class) = cost_line rule (key_of class)
 line_of (end.BadTrace rule line) = trace_line rule line
 line_of (end.BadImage number) = image_line number
 line_of (end.BadCert number) = cert_line number

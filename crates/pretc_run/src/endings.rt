@@ -1,8 +1,13 @@
 ghost use Rattle.std.specs.Prelude.{◌≡◌};
 ghost use Rattle.pretc_run.specs.Endings.{number_of, line_of};
 
+use mb_isa::Class;
 use pt_base::{Rule, Span};
-use pt_trace::{LineBuffer, cert_line, image_line, no_line, refused_line, trace_line, trap_line};
+use pt_trace::{
+    LineBuffer, cert_line, cost_line, costs_line, image_line, no_line, refused_line, trace_line,
+    trap_line,
+};
+use tk_costs::key;
 
 /// How a call of `pretc` ends. A call whose sink fails ends with `WRITE_FAULT` instead.
 #[derive(Clone, Copy)]
@@ -16,6 +21,15 @@ pub enum Ending {
     Usage,
     ReadFault,
     WantOfMemory,
+    /// The table of costs is refused by C1 or C4.
+    BadCosts {
+        rule: u8,
+    },
+    /// A class of the table of costs is refused, by C2 or C3.
+    BadCost {
+        rule: u8,
+        class: Class,
+    },
     /// A line of the trace is bad.
     BadTrace {
         rule: u8,
@@ -59,6 +73,8 @@ impl Ending {
             Ending::Usage => 2,
             Ending::ReadFault => 3,
             Ending::WantOfMemory => 5,
+            Ending::BadCosts { .. } => 6,
+            Ending::BadCost { .. } => 6,
             Ending::BadTrace { .. } => 7,
             Ending::BadImage { .. } => 8,
             Ending::BadCert { .. } => 8,
@@ -78,6 +94,8 @@ impl Ending {
         match self {
             Ending::Done => {}
             Ending::Refused { rule, span } => refused_line(rule, span, &mut line),
+            Ending::BadCosts { rule } => costs_line(rule, &mut line),
+            Ending::BadCost { rule, class } => cost_line(rule, key(class).as_bytes(), &mut line),
             Ending::BadTrace { rule, line: number } => trace_line(rule, number, &mut line),
             Ending::BadImage { number } => image_line(number, &mut line),
             Ending::BadCert { number } => cert_line(number, &mut line),

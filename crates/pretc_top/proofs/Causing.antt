@@ -9,21 +9,21 @@ use Rattle.pt_outside.specs.Told.{ShelfTold}
 use Rattle.pc_verdict.specs.Sources as source
 use Rattle.pc_verdict.specs.Verdicts.{BreaksFirst}
 use Rattle.pretc_run.specs.declared.endings.Ending.{Ending}
-use Rattle.pretc_run.specs.declared.endings.Ending.TheVariants.{Done, Refused, Usage, ReadFault, WantOfMemory, BadImage, BadCert, NotAccepted, StoreFault, NotBuilt, NoFile}
+use Rattle.pretc_run.specs.declared.endings.Ending.TheVariants.{Done, Refused, Usage, ReadFault, WantOfMemory, BadImage, BadCert, BadCosts, BadCost, NotAccepted, StoreFault, NotBuilt, NoFile}
 use Rattle.pretc_run.specs.Endings.{number_of, line_of}
 use Rattle.pretc_top.specs.declared.commands.Command.{Command}
 use Rattle.pretc_top.specs.declared.commands.Command.TheVariants.{Go, Check, Print, Rules, Mean, Gen}
-use Rattle.mb_isa.specs.Costs.{unit}
 use Rattle.tk_cert.specs.declared.CertParts.{CertParts}
 use Rattle.tk_cert.specs.Demands.{Demand}
 use Rattle.pretc_top.specs.Outside.{Outside}
 use Rattle.pretc_top.specs.Loading.{IsAsBefore, IsFailedLoad, LoadFails, load_fault, no_file, load_memory, ProgramFails, program_missing, program_refused, program_memory}
 use Rattle.pretc_top.specs.Says.{SaysEnds, said, unsaid, IsPrinted, IsRuled, GenEnds, generates, gen_memory}
 use Rattle.pretc_top.proofs.Shelves.{same_shelf}
-use Rattle.pretc_top.specs.Check.{CheckEnds, other_costs, not_loaded, judged, LoadsFail, no_image, no_cert, Judged, image_fails, cert_fails, decided, ImageFails, bad_image, image_memory, CertFails, bad_cert, cert_memory, Decided, accepted, not_accepted, AreLoaded, AreRead, refusal_of, unit_word}
+use Rattle.pretc_top.specs.Check.{CheckEnds, not_loaded, judged, LoadsFail, no_image, no_cert, no_costs, Judged, not_read, decided, Unread, image_fails, cert_fails, costs_fail, ImageFails, bad_image, image_memory, CertFails, bad_cert, cert_memory, CostsRead, CostsFail, no_document, missing_class, wrong_cost, unknown_key, costs_memory, CostsHeld, table_held, Decided, accepted, not_accepted, AreLoaded, AreRead, refusal_of}
+use Rattle.mb_isa.specs.declared.costs.Class.{Class}
 use Rattle.pretc_top.specs.Go.{IsBuilt, IsMade, IsFailedStore, BuildFails, unread, not_small, StoreFails, store_fault, store_memory, IsUnready, unbuilt, unstored, unloaded}
 use Rattle.pretc_top.specs.Comes.{Ends, no_command, go_ends, check_ends, print_ends, rules_ends, mean_ends, gen_ends}
-use Rattle.pretc_top.specs.Causes.{BreaksRule, IsRefusedBy, go_refused, print_refused, rules_refused, mean_refused, LacksFile, go_lacks, check_lacks, check_lacks_cert, print_lacks, rules_lacks, mean_lacks, BoundHolds}
+use Rattle.pretc_top.specs.Causes.{BreaksRule, IsRefusedBy, go_refused, print_refused, rules_refused, mean_refused, LacksFile, go_lacks, check_lacks, check_lacks_cert, check_lacks_costs, print_lacks, rules_lacks, mean_lacks, BoundHolds, CostsRefused, check_refuses_costs}
 
 -- by the command, the lines that are due and the ending
 pub data Cause (old new : Outside) : Option (Command (List ℕ)) → List (List ℕ) → Ending → Type 0 where
@@ -38,6 +38,10 @@ pub data Cause (old new : Outside) : Option (Command (List ℕ)) → List (List 
       Cause old new (Some (Go program name)) (line_of WantOfMemory ∷ []) WantOfMemory
   by_image : (command : Option (Command (List ℕ))) (due : List (List ℕ)) (number : ℕ) → IsAsBefore old.shelf new.shelf → Cause old new command due (BadImage number)
   by_cert : (command : Option (Command (List ℕ))) (due : List (List ℕ)) (number : ℕ) → IsAsBefore old.shelf new.shelf → Cause old new command due (BadCert number)
+  by_costs : (command : Option (Command (List ℕ))) (due : List (List ℕ)) (rule : ℕ) → CostsRefused old.shelf.files command → IsAsBefore old.shelf new.shelf →
+      Cause old new command due (BadCosts rule)
+  by_cost : (command : Option (Command (List ℕ))) (due : List (List ℕ)) (rule : ℕ) (class : Class) → CostsRefused old.shelf.files command → IsAsBefore old.shelf new.shelf →
+      Cause old new command due (BadCost rule class)
   by_demand : (command : Option (Command (List ℕ))) (due : List (List ℕ)) (d : Demand) → IsAsBefore old.shelf new.shelf → Cause old new command due (refusal_of d)
   by_store : (program name : List ℕ) (image : Parts) → IsBuilt program image old.shelf.files → IsFailedStore name (text_of image) old.shelf new.shelf →
       Cause old new (Some (Go program name)) (line_of StoreFault ∷ []) StoreFault
@@ -89,40 +93,60 @@ module _ (old new : Outside) where
     of_cert text _ k (bad_cert number f) = by_cert (Some (Check image cert costs)) _ number k
     of_cert text _ k cert_memory = by_memory (Some (Check image cert costs)) k
 
-    of_decided : (image_text cert_text : List ℕ) (i : Parts) (c : CertParts) (line : List ℕ) (e : Ending) → costs ≡ unit_word → AreLoaded image cert old.shelf new.shelf image_text cert_text →
-        AreRead image_text cert_text i c → Decided i c unit line e → Cause old new (Some (Check image cert costs)) (line ∷ []) e
-    of_decided image_text cert_text i c _ _ units l r (accepted reached y) =
+    of_table : (text : List ℕ) (e : Ending) → number_of e ≡ 6 → CostsHeld old.shelf.files costs (Some text) → CostsFail (Some text) e → CostsRefused old.shelf.files (Some (Check image cert costs))
+    of_table text e n (table_held _ other h) f = check_refuses_costs image cert costs text e other h f n
+
+    of_costs : (text : Option (List ℕ)) (e : Ending) → IsAsBefore old.shelf new.shelf → CostsHeld old.shelf.files costs text → CostsFail text e →
+        Cause old new (Some (Check image cert costs)) (line_of e ∷ []) e
+    of_costs _ _ k h (no_document text f) = by_costs (Some (Check image cert costs)) _ 1 (of_table text (BadCosts 1) refl h (no_document text f)) k
+    of_costs _ _ k h (missing_class text class f) = by_cost (Some (Check image cert costs)) _ 2 class (of_table text (BadCost 2 class) refl h (missing_class text class f)) k
+    of_costs _ _ k h (wrong_cost text class f) = by_cost (Some (Check image cert costs)) _ 3 class (of_table text (BadCost 3 class) refl h (wrong_cost text class f)) k
+    of_costs _ _ k h (unknown_key text f) = by_costs (Some (Check image cert costs)) _ 4 (of_table text (BadCosts 4) refl h (unknown_key text f)) k
+    of_costs _ _ k h (costs_memory text) = by_memory (Some (Check image cert costs)) k
+
+    of_decided : (image_text cert_text : List ℕ) (costs_text : Option (List ℕ)) (i : Parts) (c : CertParts) (p line : List ℕ) (e : Ending) →
+        AreLoaded image cert costs old.shelf new.shelf image_text cert_text costs_text → AreRead image_text cert_text i c → CostsRead costs_text p → Decided i c p line e →
+        Cause old new (Some (Check image cert costs)) (line ∷ []) e
+    of_decided image_text cert_text costs_text i c p _ _ l r q (accepted reached y) =
         by_done (Some (Check image cert costs)) _
         (record {
-          units = units;
           image_text = image_text;
           cert_text = cert_text;
+          costs_text = costs_text;
           image_held = l.image_held;
           cert_held = l.cert_held;
+          costs_held = l.costs_held;
           image_read = i;
           cert_read = c;
+          costs_read = p;
           image_is = r.image_is;
           cert_is = r.cert_is;
+          costs_are = q;
           free_ticks = y.free_ticks;
           runs = y.runs;
         })
         l.kept
-    of_decided image_text cert_text i c _ _ units l r (not_accepted d f) = by_demand (Some (Check image cert costs)) _ d l.kept
+    of_decided image_text cert_text costs_text i c p _ _ l r q (not_accepted d f) = by_demand (Some (Check image cert costs)) _ d l.kept
 
-    of_judged : (image_text cert_text line : List ℕ) (e : Ending) → costs ≡ unit_word → AreLoaded image cert old.shelf new.shelf image_text cert_text →
-        Judged image_text cert_text unit line e → Cause old new (Some (Check image cert costs)) (line ∷ []) e
-    of_judged image_text cert_text _ _ units l (image_fails e f) = of_image image_text e l.kept f
-    of_judged image_text cert_text _ _ units l (cert_fails e i is f) = of_cert cert_text e l.kept f
-    of_judged image_text cert_text _ _ units l (decided i c line e r d) = of_decided image_text cert_text i c line e units l r d
+    of_unread : (image_text cert_text : List ℕ) (costs_text : Option (List ℕ)) (e : Ending) → AreLoaded image cert costs old.shelf new.shelf image_text cert_text costs_text →
+        Unread image_text cert_text costs_text e → Cause old new (Some (Check image cert costs)) (line_of e ∷ []) e
+    of_unread image_text cert_text costs_text _ l (image_fails e f) = of_image image_text e l.kept f
+    of_unread image_text cert_text costs_text _ l (cert_fails e i is f) = of_cert cert_text e l.kept f
+    of_unread image_text cert_text costs_text _ l (costs_fail e i c r f) = of_costs costs_text e l.kept l.costs_held f
 
-    of_loads : (e : Ending) → LoadsFail image cert old.shelf new.shelf e → Cause old new (Some (Check image cert costs)) (line_of e ∷ []) e
+    of_judged : (image_text cert_text : List ℕ) (costs_text : Option (List ℕ)) (line : List ℕ) (e : Ending) → AreLoaded image cert costs old.shelf new.shelf image_text cert_text costs_text →
+        Judged image_text cert_text costs_text line e → Cause old new (Some (Check image cert costs)) (line ∷ []) e
+    of_judged image_text cert_text costs_text _ _ l (not_read e f) = of_unread image_text cert_text costs_text e l f
+    of_judged image_text cert_text costs_text _ _ l (decided i c p line e r q d) = of_decided image_text cert_text costs_text i c p line e l r q d
+
+    of_loads : (e : Ending) → LoadsFail image cert costs old.shelf new.shelf e → Cause old new (Some (Check image cert costs)) (line_of e ∷ []) e
     of_loads _ (no_image e f) = of_load old new (Some (Check image cert costs)) image e (check_lacks image cert costs) f
     of_loads _ (no_cert e text h f) = of_load old new (Some (Check image cert costs)) cert e (check_lacks_cert image cert costs text h) f
+    of_loads _ (no_costs e text other h i t f) = of_load old new (Some (Check image cert costs)) costs e (check_lacks_costs image cert costs text other h i t) f
 
     of_check : (due : List (List ℕ)) (e : Ending) → CheckEnds image cert costs old.shelf new.shelf due e → Cause old new (Some (Check image cert costs)) due e
-    of_check _ _ (other_costs other k) = by_form (Some (Check image cert costs)) k
-    of_check _ _ (not_loaded e units f) = of_loads e f
-    of_check _ _ (judged image_text cert_text line e units l j) = of_judged image_text cert_text line e units l j
+    of_check _ _ (not_loaded e f) = of_loads e f
+    of_check _ _ (judged image_text cert_text costs_text line e l j) = of_judged image_text cert_text costs_text line e l j
 
   of_gen : (n : ℕ) (due : List (List ℕ)) (e : Ending) → new.shelf ≡ old.shelf → GenEnds n due e → Cause old new (Some (Gen n)) due e
   of_gen n _ _ s generates = by_done (Some (Gen n)) _ tt (same_shelf old.shelf new.shelf s)

@@ -6,6 +6,7 @@ use Rattle.pt_outside.specs.Files.{Files, KeepsFiles, Stores, Tears, Holds, Lack
 use Rattle.pt_outside.specs.Told.{ShelfTold}
 use Rattle.pretc_run.specs.declared.endings.Ending.{Ending}
 use Rattle.pretc_top.specs.Loading.{IsAsBefore, IsFailedLoad, LoadFails, load_fault, no_file, load_memory}
+use Rattle.pretc_top.specs.Check.{costs_most, CostsHeld, no_table, table_held}
 use Rattle.pretc_top.specs.Go.{IsStored, IsFailedStore, StoreFails, store_fault, store_memory}
 
 pub held_before : (old new : Option Files) (name : List ℕ) (most : ℕ) (text : List ℕ) → KeepsFiles old new → Holds new name most text → Holds old name most text
@@ -45,6 +46,10 @@ as_it_was shelf = record { files = keeps_same shelf.files; load_faults = refl; s
 
 pub same_shelf : (old new : ShelfTold) → new ≡ old → IsAsBefore old new
 same_shelf old new s = let P : ShelfTold → Type 0 = λ t. IsAsBefore old t in subst P (sym s) (as_it_was old)
+
+pub costs_before : (old new : Option Files) (costs : List ℕ) (text : Option (List ℕ)) → KeepsFiles old new → CostsHeld new costs text → CostsHeld old costs text
+costs_before old new costs _ k (no_table e) = no_table e
+costs_before old new costs _ k (table_held text n h) = table_held text n (held_before old new costs costs_most text k h)
 
 pub before_both : (old mid new : ShelfTold) → IsAsBefore old mid → IsAsBefore mid new → IsAsBefore old new
 before_both old mid new a b = record {

@@ -20,9 +20,9 @@ use Rattle.pretc_top.specs.Outside.{Outside, IsLater}
 use Rattle.pretc_top.specs.Loading.{IsAsBefore}
 use Rattle.pretc_top.specs.Go.{cycles_most, go_lines, IsMade, GoRan, GoBroke}
 use Rattle.pretc_top.specs.Comes.{Ends, no_command, go_ends, check_ends, print_ends, rules_ends, mean_ends, gen_ends, Ran, go_ran, mean_ran, Broke, go_broke, mean_broke, Comes, ends, ran, broke}
-use Rattle.pretc_top.specs.Causes.{BoundHolds, IsRefusedBy, LacksFile, IsSent, Causes}
+use Rattle.pretc_top.specs.Causes.{BoundHolds, CostsRefused, IsRefusedBy, LacksFile, IsSent, Causes}
 use Rattle.pretc_top.specs.Stands.{OnlySaid, GoStopped, AfterReadFault, load_failed, pull_failed, mean_pull_failed, GoPulled, AfterWriteFault, before_the_trace, in_the_report, in_the_meaning, AfterMemory, memory_before, memory_stored, memory_at_a_tick, AfterBadTrace, go_bad_trace, mean_bad_trace, AfterStoreFault, go_store_failed}
-use Rattle.pretc_top.proofs.Causing.{Cause, by_done, by_refusal, by_usage, by_load, by_memory, by_stored, by_image, by_cert, by_demand, by_store, by_form, by_absence, cause}
+use Rattle.pretc_top.proofs.Causing.{Cause, by_done, by_refusal, by_usage, by_load, by_memory, by_stored, by_image, by_cert, by_costs, by_cost, by_demand, by_store, by_form, by_absence, cause}
 
 -- ---- an ending without a run, by the number that is answered
 
@@ -49,6 +49,8 @@ module _ (old new : Outside) where
   shelf_counts _ _ _ (by_stored program name image m) = same 5 m.stored.load_faults m.stored.store_faults
   shelf_counts _ _ _ (by_image command due number k) = kept 8 k
   shelf_counts _ _ _ (by_cert command due number k) = kept 8 k
+  shelf_counts _ _ _ (by_costs command due rule r k) = kept 6 k
+  shelf_counts _ _ _ (by_cost command due rule class r k) = kept 6 k
   shelf_counts _ _ _ (by_demand command due d k) = kept 9 k
   shelf_counts _ _ _ (by_store program name image b f) = record { load_later = omega (arith, f.load_faults); store_later = f.later; load_kept = λ h. f.load_faults; store_kept = λ h. absurd (h refl) }
   shelf_counts _ _ _ (by_form command k) = kept 12 k
@@ -61,6 +63,11 @@ module _ (old new : Outside) where
   refused_by : (command : Option (Command (List ℕ))) (due : List (List ℕ)) (e : Ending) → number_of e ≡ 1 → Cause old new command due e → IsRefusedBy old.shelf.files command
   refused_by _ _ _ n (by_refusal command rule span r k) = r
   refused_by _ _ _ n c = absurd (omega (arith, n))
+
+  costs_by : (command : Option (Command (List ℕ))) (due : List (List ℕ)) (e : Ending) → number_of e ≡ 6 → Cause old new command due e → CostsRefused old.shelf.files command
+  costs_by _ _ _ n (by_costs command due rule r k) = r
+  costs_by _ _ _ n (by_cost command due rule class r k) = r
+  costs_by _ _ _ n c = absurd (omega (arith, n))
 
   usage_by : (command : Option (Command (List ℕ))) (due : List (List ℕ)) (e : Ending) → number_of e ≡ 2 → Cause old new command due e → command ≡ None
   usage_by _ _ _ n (by_usage s) = refl
@@ -135,6 +142,7 @@ module _ (old new : Outside) where
         write_fault = λ a. absurd (never_four e (is 4 a));
         after_write_fault = λ a. absurd (never_four e (is 4 a));
         after_memory = λ a. memory_by command due e (is 5 a) c s h.wrote;
+        bad_costs = λ a. costs_by command due e (is 6 a) c;
         bad_trace = λ a. absurd (no_seven command due e c (is 7 a));
         store_fault = λ a. store_rose_by command due e (is 11 a) c;
         after_store_fault = λ a. store_by command due e (is 11 a) c s h.wrote;
@@ -161,6 +169,7 @@ module _ (old new : Outside) where
         write_fault = λ a. rose;
         after_write_fault = λ a. after;
         after_memory = λ a. absurd (omega (arith, a, is));
+        bad_costs = λ a. absurd (omega (arith, a, is));
         bad_trace = λ a. absurd (omega (arith, a, is));
         store_fault = λ a. absurd (omega (arith, a, is));
         after_store_fault = λ a. absurd (omega (arith, a, is));
@@ -261,6 +270,7 @@ by_go program name old new due e answer g h =
       write_fault = λ a. absurd (other 4 a (λ n. omega (arith, n)) (λ n. omega (arith, n)) (λ n. omega (arith, n)));
       after_write_fault = λ a. absurd (other 4 a (λ n. omega (arith, n)) (λ n. omega (arith, n)) (λ n. omega (arith, n)));
       after_memory = λ a. absurd (other 5 a (λ n. omega (arith, n)) (λ n. omega (arith, n)) (λ n. omega (arith, n)));
+      bad_costs = λ a. absurd (other 6 a (λ n. omega (arith, n)) (λ n. omega (arith, n)) (λ n. omega (arith, n)));
       bad_trace = λ a. stopped_bad program name old new g.image g.made g.rows g.last e g.ends wrote (is 7 a);
       store_fault = λ a. absurd (other 11 a (λ n. omega (arith, n)) (λ n. omega (arith, n)) (λ n. omega (arith, n)));
       after_store_fault = λ a. absurd (other 11 a (λ n. omega (arith, n)) (λ n. omega (arith, n)) (λ n. omega (arith, n)));
@@ -379,6 +389,7 @@ by_mean program old new due e answer g h =
       write_fault = λ a. absurd (other 4 a (λ n. omega (arith, n)) (λ n. omega (arith, n)) (λ n. omega (arith, n)) (λ n. omega (arith, n)));
       after_write_fault = λ a. absurd (other 4 a (λ n. omega (arith, n)) (λ n. omega (arith, n)) (λ n. omega (arith, n)) (λ n. omega (arith, n)));
       after_memory = λ a. meant_memory program old new g.meant g.rows g.last e g.ends wrote (is 5 a);
+      bad_costs = λ a. absurd (other 6 a (λ n. omega (arith, n)) (λ n. omega (arith, n)) (λ n. omega (arith, n)) (λ n. omega (arith, n)));
       bad_trace = λ a. meant_bad program old new g.meant g.rows g.last e g.ends wrote (is 7 a);
       store_fault = λ a. absurd (other 11 a (λ n. omega (arith, n)) (λ n. omega (arith, n)) (λ n. omega (arith, n)) (λ n. omega (arith, n)));
       after_store_fault = λ a. absurd (other 11 a (λ n. omega (arith, n)) (λ n. omega (arith, n)) (λ n. omega (arith, n)) (λ n. omega (arith, n)));

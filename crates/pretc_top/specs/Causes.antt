@@ -3,7 +3,6 @@ use Rattle.std.specs.Prelude.{◌≡◌, ◌≢◌, ◌⊎◌, ℕ, true, List, 
 use Rattle.pt_outside.specs.Counts.{Rose}
 use Rattle.pt_outside.specs.Files.{Files, Holds, Lacks}
 use Rattle.pt_outside.specs.Told.{SinkTold}
-use Rattle.mb_isa.specs.Costs.{unit}
 use Rattle.pt_image.specs.declared.Parts.{Parts}
 use Rattle.tk_cert.specs.declared.CertParts.{CertParts}
 use Rattle.tk_bound.specs.Bounded.{BoundsFreeTicks, BoundsRuns}
@@ -16,7 +15,9 @@ use Rattle.pretc_top.specs.declared.commands.Command.{Command}
 use Rattle.pretc_top.specs.declared.commands.Command.TheVariants.{Go, Check, Print, Rules, Mean}
 use Rattle.pretc_top.specs.Outside.{Outside, IsLater}
 use Rattle.pretc_top.specs.Loading.{source_most}
-use Rattle.pretc_top.specs.Check.{image_most, cert_most, unit_word, IsImageText, IsCertText}
+use Rattle.pretc_top.specs.Check.{image_most, cert_most, costs_most, unit_word, IsImageText, IsCertText, CostsHeld, CostsRead, CostsFail}
+use Rattle.pretc_run.specs.declared.endings.Ending.{Ending}
+use Rattle.pretc_run.specs.Endings.{number_of}
 use Rattle.pretc_top.specs.Stands.{AfterReadFault, AfterWriteFault, AfterMemory, AfterBadTrace, AfterStoreFault}
 
 -- the program was loaded, and breaks this rule first, of those that are looked at
@@ -40,23 +41,33 @@ pub data LacksFile (files : Option Files) : Option (Command (List ℕ)) → Type
   check_lacks : (image cert costs : List ℕ) → Lacks files image → LacksFile files (Some (Check image cert costs))
   check_lacks_cert : (image cert costs text : List ℕ) → Holds files image image_most text → Lacks files cert →
       LacksFile files (Some (Check image cert costs))
+  check_lacks_costs : (image cert costs text other : List ℕ) → Holds files image image_most text → Holds files cert cert_most other →
+      costs ≢ unit_word → Lacks files costs → LacksFile files (Some (Check image cert costs))
   print_lacks : (program : List ℕ) → Lacks files program → LacksFile files (Some (Print program))
   rules_lacks : (program : List ℕ) → Lacks files program → LacksFile files (Some (Rules program))
   mean_lacks : (program : List ℕ) → Lacks files program → LacksFile files (Some (Mean program))
 
--- the two files of a check at unit costs were loaded, and the bound of the certificate bounds the image
+-- the files of a check were loaded, and the bound of the certificate bounds the image, under the costs that it names
 pub record IsBound (image cert costs : List ℕ) (files : Option Files) : Type 0 where
-  pub units : costs ≡ unit_word
   pub image_text : List ℕ
   pub cert_text : List ℕ
+  pub costs_text : Option (List ℕ)
   pub image_held : Holds files image image_most image_text
   pub cert_held : Holds files cert cert_most cert_text
+  pub costs_held : CostsHeld files costs costs_text
   pub image_read : Parts
   pub cert_read : CertParts
+  pub costs_read : List ℕ
   pub image_is : IsImageText image_text image_read
   pub cert_is : IsCertText cert_text cert_read
-  pub free_ticks : BoundsFreeTicks image_read unit cert_read.bound
-  pub runs : BoundsRuns image_read unit cert_read.bound
+  pub costs_are : CostsRead costs_text costs_read
+  pub free_ticks : BoundsFreeTicks image_read costs_read cert_read.bound
+  pub runs : BoundsRuns image_read costs_read cert_read.bound
+
+-- the table of costs that a check names was loaded, after image and certificate were read, and is refused
+pub data CostsRefused (files : Option Files) : Option (Command (List ℕ)) → Type 0 where
+  check_refuses_costs : (image cert costs text : List ℕ) (e : Ending) → costs ≢ unit_word → Holds files costs costs_most text →
+      CostsFail (Some text) e → number_of e ≡ 6 → CostsRefused files (Some (Check image cert costs))
 
 -- the words are a command; where it is a check, the bound of its certificate bounds its image
 abbrev pub BoundHolds : Option Files → Option (Command (List ℕ)) → Type 0
@@ -81,6 +92,7 @@ pub record Causes (command : Option (Command (List ℕ))) (old new : Outside) (a
   pub write_fault : answer ≡ 4 → Rose old.sink.faults new.sink.faults
   pub after_write_fault : answer ≡ 4 → AfterWriteFault old new command
   pub after_memory : answer ≡ 5 → AfterMemory old new command
+  pub bad_costs : answer ≡ 6 → CostsRefused old.shelf.files command
   pub bad_trace : answer ≡ 7 → AfterBadTrace old new command
   pub store_fault : answer ≡ 11 → Rose old.shelf.store_faults new.shelf.store_faults
   pub after_store_fault : answer ≡ 11 → AfterStoreFault old new command

@@ -1,11 +1,12 @@
-ghost use Rattle.std.specs.Prelude.{◌≡◌, ◌↔◌, ◌∷◌, [], IsTrue, IfOk, IfErr};
-ghost use Rattle.mb_isa.specs.Costs.{unit};
-ghost use Rattle.pretc_top.specs.Check.{unit_word, IsImageText, ImageFails, IsCertText, CertFails, Decided, Judged, AreLoaded, LoadsFail, CheckEnds};
+ghost use Rattle.std.specs.Prelude.{◌≡◌, ◌↔◌, ◌∷◌, [], IsTrue, IfOk, IfErr, OnOk};
+ghost use Rattle.pretc_top.specs.Loading.{IsAsBefore};
+ghost use Rattle.pretc_top.specs.Check.{unit_word, IsImageText, ImageFails, IsCertText, CertFails, CostsRead, CostsFail};
+ghost use Rattle.pretc_top.specs.Check.{Decided, AreRead, Unread, Judged, CostsHeld, CostsNotLoaded, AreLoaded, LoadsFail, CheckEnds};
 ghost use Rattle.pretc_top.specs.Comes.{Concludes};
 
 use crate::saying::{Saying, said};
 use crate::stages::load_text;
-use mb_isa::unit_costs;
+use mb_isa::{Costs, unit_costs};
 use pretc_run::{Ending, finish_with};
 use pt_base::Text;
 use pt_image::{Image, ImageFault};
@@ -14,11 +15,14 @@ use pt_trace::{LineBuffer, yes_line};
 use std::alloc::Global;
 use tk_cert::{Cert, CertFault};
 use tk_check::{Answer, check};
+use tk_costs::{CostFault, read_costs};
 
-// One byte more than an image file may have, and than a certificate file may have.
+// One byte more than an image file may have, than a certificate file may have, and than a table of costs may have.
 const IMAGE_MOST: u64 = 16777217;
 
 const CERT_MOST: u64 = 1099511627777;
+
+const COSTS_MOST: u64 = 65537;
 
 // The image whose text it is.
 fn read_image(alloc: Global, text: &Text) -> Result<Image, Ending>
@@ -47,11 +51,30 @@ fn read_cert(alloc: Global, text: &Text) -> Result<Cert, Ending>
     }
 }
 
-// What the checker says of an image and its certificate.
-fn decided(image: &Image, cert: &Cert) -> Saying
-    ensures { Decided image.now cert.now unit result.line result.ending }
+// The costs that a table's text says, or the units where there is no table.
+fn costs_of(alloc: Global, text: &Option<Text>) -> Result<Costs, Ending>
+    ensures read { IfOk result (λ costs. CostsRead text.now costs) }
+    ensures failed { IfErr result (λ e. CostsFail text.now e) }
 {
-    match check(image, cert, &unit_costs()) {
+    let text = match text {
+        None => return Ok(unit_costs()),
+        Some(text) => text,
+    };
+    match read_costs(alloc, text) {
+        Ok(costs) => Ok(costs),
+        Err(CostFault::Form) => Err(Ending::BadCosts { rule: 1 }),
+        Err(CostFault::Missing(class)) => Err(Ending::BadCost { rule: 2, class }),
+        Err(CostFault::Range(class)) => Err(Ending::BadCost { rule: 3, class }),
+        Err(CostFault::Unknown) => Err(Ending::BadCosts { rule: 4 }),
+        Err(CostFault::Memory) => Err(Ending::WantOfMemory),
+    }
+}
+
+// What the checker says of an image, its certificate and the costs.
+fn decided(image: &Image, cert: &Cert, costs: &Costs) -> Saying
+    ensures { Decided image.now cert.now costs.now result.line result.ending }
+{
+    match check(image, cert, costs) {
         Answer::Yes { reached } => {
             let mut line = LineBuffer::empty();
             yes_line(cert.bound(), reached, &mut line);
@@ -76,39 +99,31 @@ fn decided(image: &Image, cert: &Cert) -> Saying
     }
 }
 
-// What the texts of an image file and of a certificate file come to.
-fn judged(alloc: Global, image_text: &Text, cert_text: &Text) -> Saying
-    ensures { Judged image_text.now cert_text.now unit result.line result.ending }
+// The texts of the three files; there is none of costs where each class costs 1.
+#[derive(Drop)]
+struct Texts {
+    image: Text,
+    cert: Text,
+    costs: Option<Text>,
+}
+
+// What the texts come to.
+fn judged(alloc: Global, texts: &Texts) -> Saying
+    ensures { Judged texts.now.image texts.now.cert texts.now.costs result.line result.ending }
 {
-    let image = match read_image(alloc, image_text) {
+    let image = match read_image(alloc, &texts.image) {
         Ok(image) => image,
         Err(ending) => return said(ending),
     };
-    let cert = match read_cert(alloc, cert_text) {
+    let cert = match read_cert(alloc, &texts.cert) {
         Ok(cert) => cert,
         Err(ending) => return said(ending),
     };
-    decided(&image, &cert)
-}
-
-// The bytes of the two files, the image first.
-fn load_both<H: Shelf>(
-    alloc: Global,
-    image: &Text,
-    cert: &Text,
-    shelf: &mut H,
-) -> Result<(Text, Text), Ending>
-    ensures loaded { IfOk result (λ t. AreLoaded image.now cert.now (H.told shelf.old) (H.told shelf.new) t.0 t.1) }
-    ensures failed { IfErr result (λ e. LoadsFail image.now cert.now (H.told shelf.old) (H.told shelf.new) e) }
-{
-    let image_text = match load_text(alloc, image, IMAGE_MOST, shelf) {
-        Ok(text) => text,
-        Err(ending) => return Err(ending),
+    let costs = match costs_of(alloc, &texts.costs) {
+        Ok(costs) => costs,
+        Err(ending) => return said(ending),
     };
-    match load_text(alloc, cert, CERT_MOST, shelf) {
-        Ok(cert_text) => Ok((image_text, cert_text)),
-        Err(ending) => Err(ending),
-    }
+    decided(&image, &cert, &costs)
 }
 
 // Whether the word for the costs says that each class costs 1.
@@ -116,6 +131,47 @@ fn is_unit(costs: &Text) -> bool
     ensures { IsTrue result ↔ costs.now ≡ unit_word }
 {
     costs.bytes() == b"-".as_slice()
+}
+
+// The bytes of the table of costs, where the word names one.
+fn load_costs<H: Shelf>(alloc: Global, costs: &Text, shelf: &mut H) -> Result<Option<Text>, Ending>
+    ensures held { IfOk result (λ t. CostsHeld (H.told shelf.old).files costs.now t) }
+    ensures kept { OnOk result (IsAsBefore (H.told shelf.old) (H.told shelf.new)) }
+    ensures failed { IfErr result (λ e. CostsNotLoaded costs.now (H.told shelf.old) (H.told shelf.new) e) }
+{
+    if is_unit(costs) {
+        return Ok(None);
+    }
+    match load_text(alloc, costs, COSTS_MOST, shelf) {
+        Ok(text) => Ok(Some(text)),
+        Err(ending) => Err(ending),
+    }
+}
+
+// The bytes of the files, the image first.
+fn load_all<H: Shelf>(
+    alloc: Global,
+    image: &Text,
+    cert: &Text,
+    costs: &Text,
+    shelf: &mut H,
+) -> Result<Texts, Ending>
+    ensures loaded { IfOk result (λ t. AreLoaded image.now cert.now costs.now (H.told shelf.old) (H.told shelf.new)
+        t.image t.cert t.costs) }
+    ensures failed { IfErr result (λ e. LoadsFail image.now cert.now costs.now (H.told shelf.old) (H.told shelf.new) e) }
+{
+    let image = match load_text(alloc, image, IMAGE_MOST, shelf) {
+        Ok(text) => text,
+        Err(ending) => return Err(ending),
+    };
+    let cert = match load_text(alloc, cert, CERT_MOST, shelf) {
+        Ok(text) => text,
+        Err(ending) => return Err(ending),
+    };
+    match load_costs(alloc, costs, shelf) {
+        Ok(costs) => Ok(Texts { image, cert, costs }),
+        Err(ending) => Err(ending),
+    }
 }
 
 // What the words of a check come to.
@@ -129,11 +185,8 @@ fn checked<H: Shelf>(
     ensures ends { CheckEnds image.now cert.now costs.now (H.told shelf.old) (H.told shelf.new)
         (result.line ∷ []) result.ending }
 {
-    if !is_unit(costs) {
-        return said(Ending::NotBuilt);
-    }
-    match load_both(alloc, image, cert, shelf) {
-        Ok((image_text, cert_text)) => judged(alloc, &image_text, &cert_text),
+    match load_all(alloc, image, cert, costs, shelf) {
+        Ok(texts) => judged(alloc, &texts),
         Err(ending) => said(ending),
     }
 }

@@ -41,3 +41,11 @@ trace_line rule line = codes "trace T" ++ decimal rule ++ codes " line " ++ deci
 -- the place of the word that loaded or stored outside the memory, and the tick
 abbrev pub trap_line : ℕ → ℕ → List ℕ
 trap_line at tick = codes "trap BadAddress at " ++ decimal at ++ codes " tick " ++ decimal tick ++ codes "\n"
+
+-- the rule that refuses a table of costs, as 1 for C1
+abbrev pub costs_line : ℕ → List ℕ
+costs_line rule = codes "costs C" ++ decimal rule ++ codes "\n"
+
+-- the same with the key of the class that it names
+abbrev pub cost_line : ℕ → List ℕ → List ℕ
+cost_line rule key = codes "costs C" ++ decimal rule ++ codes " " ++ key ++ codes "\n"

@@ -1,4 +1,4 @@
-ghost use Rattle.std.specs.Prelude.{◌≡◌, length};
+ghost use Rattle.std.specs.Prelude.{◌≡◌, ◌≤◌, length};
 ghost use Rattle.pt_trace.specs.Refused as spec;
 ghost use Rattle.pt_trace.specs.Refused.{name_of};
 
@@ -72,5 +72,28 @@ pub fn trap_line(at: u32, tick: u64, into: &mut LineBuffer)
     into.push_decimal(u64::from(at));
     into.push_bytes(b" tick ");
     into.push_decimal(tick);
+    into.push_bytes(b"\n");
+}
+
+/// Leaves the line `costs CN` in the buffer. It takes no memory.
+pub fn costs_line(rule: u8, into: &mut LineBuffer)
+    ensures { into.new ≡ spec.costs_line rule }
+{
+    into.clear();
+    into.push_bytes(b"costs C");
+    into.push_decimal(u64::from(rule));
+    into.push_bytes(b"\n");
+}
+
+/// Leaves the line `costs CN KEY` in the buffer. It takes no memory.
+pub fn cost_line(rule: u8, key: &[u8], into: &mut LineBuffer)
+    requires { length key.now ≤ 7 }
+    ensures { into.new ≡ spec.cost_line rule key.now }
+{
+    into.clear();
+    into.push_bytes(b"costs C");
+    into.push_decimal(u64::from(rule));
+    into.push_bytes(b" ");
+    into.push_bytes(key);
     into.push_bytes(b"\n");
 }

@@ -4,12 +4,12 @@ use pt_base::Memory;
 use std::alloc::Global;
 use std::test::Fail;
 
-// A counter: loads its input, adds 1, stores its output, pauses, and jumps back.
-const COUNTER: &str =
+/// A counter: loads its input, adds 1, stores its output, pauses, and jumps back.
+pub const COUNTER: &str =
     "ARPRET 1\ncode 5\ne8600000\n30630001\nf8600004\nfc200000\nb800fff0\nmemory 2\n0\n0\ninputs 1\n0\noutputs 1\n1\nslots 1\n0\naborts 0\npauses 1\n3 0 0\nforks 0\n";
 
-// Its certificate, where each class costs 1.
-const COUNTER_CERT: &str =
+/// Its certificate, where each class costs 1.
+pub const COUNTER_CERT: &str =
     "PRETCERT 1\nbound 8\nat 5\nT 0 0 0 4 -\nT 0 0 0 3 -\nT 0 0 0 2 -\nT 0 0 0 1 -\nT 0 0 0 5 -\nloops 0\nslots 1\n5 -\nwalk 1\np 3\nchoices 0\n\n";
 
 // Its certificate, where a pause costs 7 and each other class 1.
@@ -20,11 +20,11 @@ const DEAR_CERT: &str =
 const SHORT_CERT: &str =
     "PRETCERT 1\nbound 14\nat 5\nT 0 0 0 10 -\nT 0 0 0 9 -\nT 0 0 0 8 -\nT 0 0 0 7 -\nT 0 0 0 11 -\nloops 0\nslots 1\n11 -\nwalk 1\np 3\nchoices 0\n";
 
-// A load at a bad address, a pause, and a jump back.
-const BAD_LOAD: &str =
+/// A load at a bad address, a pause, and a jump back.
+pub const BAD_LOAD: &str =
     "ARPRET 1\ncode 3\ne8600008\nfc200000\nb800fff8\nmemory 2\n0\n0\ninputs 0\noutputs 0\nslots 1\n0\naborts 0\npauses 1\n1 0 0\nforks 0\n";
 
-const BAD_LOAD_CERT: &str =
+pub const BAD_LOAD_CERT: &str =
     "PRETCERT 1\nbound 4\nat 3\nT 0 0 0 2 -\nT 0 0 0 1 -\nT 0 0 0 3 -\nloops 0\nslots 1\n3 -\nwalk 1\np 1\nchoices 0\n\n";
 
 // A jump to itself.

@@ -12,18 +12,19 @@ use Rattle.pretc_run.specs.declared.endings.Ending.{Ending}
 use Rattle.pretc_run.specs.declared.endings.Ending.TheVariants.{Done, Refused, Usage, ReadFault, WantOfMemory, BadImage, BadCert, BadCosts, BadCost, NotAccepted, StoreFault, NotBuilt, NoFile}
 use Rattle.pretc_run.specs.Endings.{number_of, line_of}
 use Rattle.pretc_top.specs.declared.commands.Command.{Command}
-use Rattle.pretc_top.specs.declared.commands.Command.TheVariants.{Go, Check, Print, Rules, Mean, Gen}
+use Rattle.pretc_top.specs.declared.commands.Command.TheVariants.{Go, Check, Print, Rules, Mean, Gen, Exec}
 use Rattle.tk_cert.specs.declared.CertParts.{CertParts}
 use Rattle.tk_cert.specs.Demands.{Demand}
 use Rattle.pretc_top.specs.Outside.{Outside}
 use Rattle.pretc_top.specs.Loading.{IsAsBefore, IsFailedLoad, LoadFails, load_fault, no_file, load_memory, ProgramFails, program_missing, program_refused, program_memory}
 use Rattle.pretc_top.specs.Says.{SaysEnds, said, unsaid, IsPrinted, IsRuled, GenEnds, generates, gen_memory}
 use Rattle.pretc_top.proofs.Shelves.{same_shelf}
-use Rattle.pretc_top.specs.Check.{CheckEnds, not_loaded, judged, LoadsFail, no_image, no_cert, no_costs, Judged, not_read, decided, Unread, image_fails, cert_fails, costs_fail, ImageFails, bad_image, image_memory, CertFails, bad_cert, cert_memory, CostsRead, CostsFail, no_document, missing_class, wrong_cost, unknown_key, costs_memory, CostsHeld, table_held, Decided, accepted, not_accepted, AreLoaded, AreRead, refusal_of}
+use Rattle.pretc_top.specs.Check.{CheckEnds, not_loaded, judged, LoadsFail, no_image, no_cert, no_costs, Judged, not_read, decided, Unread, image_fails, cert_fails, costs_fail, ImageFails, bad_image, image_memory, CertFails, bad_cert, cert_memory, CostsRead, CostsFail, no_document, missing_class, wrong_cost, unknown_key, costs_memory, CostsHeld, table_held, Decided, accepted, not_accepted, AreLoaded, AreRead, refusal_of, image_most, cert_most, costs_most, unit_word}
+use Rattle.pretc_top.specs.Exec.{Unapproved, not_in_form, unaccepted, ExecUnready, exec_not_loaded, exec_unapproved, exec_memory}
 use Rattle.mb_isa.specs.declared.costs.Class.{Class}
 use Rattle.pretc_top.specs.Go.{IsBuilt, IsMade, IsFailedStore, BuildFails, unread, not_small, StoreFails, store_fault, store_memory, IsUnready, unbuilt, unstored, unloaded}
-use Rattle.pretc_top.specs.Comes.{Ends, no_command, go_ends, check_ends, print_ends, rules_ends, mean_ends, gen_ends}
-use Rattle.pretc_top.specs.Causes.{BreaksRule, IsRefusedBy, go_refused, print_refused, rules_refused, mean_refused, LacksFile, go_lacks, check_lacks, check_lacks_cert, check_lacks_costs, print_lacks, rules_lacks, mean_lacks, BoundHolds, CostsRefused, check_refuses_costs}
+use Rattle.pretc_top.specs.Comes.{Ends, no_command, go_ends, check_ends, print_ends, rules_ends, mean_ends, exec_ends, gen_ends}
+use Rattle.pretc_top.specs.Causes.{BreaksRule, IsRefusedBy, go_refused, print_refused, rules_refused, mean_refused, LacksFile, go_lacks, check_lacks, check_lacks_cert, check_lacks_costs, print_lacks, rules_lacks, mean_lacks, exec_lacks, exec_lacks_cert, exec_lacks_costs, BoundHolds, CostsRefused, check_refuses_costs, exec_refuses_costs}
 
 -- by the command, the lines that are due and the ending
 pub data Cause (old new : Outside) : Option (Command (List ℕ)) → List (List ℕ) → Ending → Type 0 where
@@ -84,26 +85,67 @@ module _ (old new : Outside) where
   of_go program name _ (unstored _ image b (store_memory k)) = by_memory (Some (Go program name)) k
   of_go program name _ (unloaded image m) = by_stored program name image m
 
+  -- what is told of a command by its files
+  record NamesFiles (image cert costs : List ℕ) (command : Option (Command (List ℕ))) : Type 0 where
+    pub lacks_image : Lacks old.shelf.files image → LacksFile old.shelf.files command
+    pub lacks_cert : (text : List ℕ) → Holds old.shelf.files image image_most text → Lacks old.shelf.files cert → LacksFile old.shelf.files command
+    pub lacks_costs : (text other : List ℕ) → Holds old.shelf.files image image_most text → Holds old.shelf.files cert cert_most other → costs ≢ unit_word →
+        Lacks old.shelf.files costs → LacksFile old.shelf.files command
+    pub refuses : (text : List ℕ) (e : Ending) → costs ≢ unit_word → Holds old.shelf.files costs costs_most text → CostsFail (Some text) e → number_of e ≡ 6 →
+        CostsRefused old.shelf.files command
+
+  check_names : (image cert costs : List ℕ) → NamesFiles image cert costs (Some (Check image cert costs))
+  check_names image cert costs = record {
+    lacks_image = check_lacks image cert costs;
+    lacks_cert = check_lacks_cert image cert costs;
+    lacks_costs = check_lacks_costs image cert costs;
+    refuses = check_refuses_costs image cert costs;
+  }
+
+  exec_names : (image cert costs : List ℕ) → NamesFiles image cert costs (Some (Exec image cert costs))
+  exec_names image cert costs = record {
+    lacks_image = exec_lacks image cert costs;
+    lacks_cert = exec_lacks_cert image cert costs;
+    lacks_costs = exec_lacks_costs image cert costs;
+    refuses = exec_refuses_costs image cert costs;
+  }
+
+  module _ (image cert costs : List ℕ) (command : Option (Command (List ℕ))) (names : NamesFiles image cert costs command) where
+    of_image : (text : List ℕ) (e : Ending) → IsAsBefore old.shelf new.shelf → ImageFails text e → Cause old new command (line_of e ∷ []) e
+    of_image text _ k (bad_image number f) = by_image command _ number k
+    of_image text _ k image_memory = by_memory command k
+
+    of_cert : (text : List ℕ) (e : Ending) → IsAsBefore old.shelf new.shelf → CertFails text e → Cause old new command (line_of e ∷ []) e
+    of_cert text _ k (bad_cert number f) = by_cert command _ number k
+    of_cert text _ k cert_memory = by_memory command k
+
+    of_table : (text : List ℕ) (e : Ending) → number_of e ≡ 6 → CostsHeld old.shelf.files costs (Some text) → CostsFail (Some text) e → CostsRefused old.shelf.files command
+    of_table text e n (table_held _ other h) f = names.refuses text e other h f n
+
+    of_costs : (text : Option (List ℕ)) (e : Ending) → IsAsBefore old.shelf new.shelf → CostsHeld old.shelf.files costs text → CostsFail text e → Cause old new command (line_of e ∷ []) e
+    of_costs _ _ k h (no_document text f) = by_costs command _ 1 (of_table text (BadCosts 1) refl h (no_document text f)) k
+    of_costs _ _ k h (missing_class text class f) = by_cost command _ 2 class (of_table text (BadCost 2 class) refl h (missing_class text class f)) k
+    of_costs _ _ k h (wrong_cost text class f) = by_cost command _ 3 class (of_table text (BadCost 3 class) refl h (wrong_cost text class f)) k
+    of_costs _ _ k h (unknown_key text f) = by_costs command _ 4 (of_table text (BadCosts 4) refl h (unknown_key text f)) k
+    of_costs _ _ k h (costs_memory text) = by_memory command k
+
+    of_unread : (image_text cert_text : List ℕ) (costs_text : Option (List ℕ)) (e : Ending) → AreLoaded image cert costs old.shelf new.shelf image_text cert_text costs_text →
+        Unread image_text cert_text costs_text e → Cause old new command (line_of e ∷ []) e
+    of_unread image_text cert_text costs_text _ l (image_fails e f) = of_image image_text e l.kept f
+    of_unread image_text cert_text costs_text _ l (cert_fails e i is f) = of_cert cert_text e l.kept f
+    of_unread image_text cert_text costs_text _ l (costs_fail e i c r f) = of_costs costs_text e l.kept l.costs_held f
+
+    of_loads : (e : Ending) → LoadsFail image cert costs old.shelf new.shelf e → Cause old new command (line_of e ∷ []) e
+    of_loads _ (no_image e f) = of_load old new command image e names.lacks_image f
+    of_loads _ (no_cert e text h f) = of_load old new command cert e (names.lacks_cert text h) f
+    of_loads _ (no_costs e text other h i t f) = of_load old new command costs e (names.lacks_costs text other h i t) f
+
+    of_unapproved : (image_text cert_text : List ℕ) (costs_text : Option (List ℕ)) (e : Ending) → AreLoaded image cert costs old.shelf new.shelf image_text cert_text costs_text →
+        Unapproved image_text cert_text costs_text e → Cause old new command (line_of e ∷ []) e
+    of_unapproved image_text cert_text costs_text _ l (not_in_form e f) = of_unread image_text cert_text costs_text e l f
+    of_unapproved image_text cert_text costs_text _ l (unaccepted i c p d r q f) = by_demand command _ d l.kept
+
   module _ (image cert costs : List ℕ) where
-    of_image : (text : List ℕ) (e : Ending) → IsAsBefore old.shelf new.shelf → ImageFails text e → Cause old new (Some (Check image cert costs)) (line_of e ∷ []) e
-    of_image text _ k (bad_image number f) = by_image (Some (Check image cert costs)) _ number k
-    of_image text _ k image_memory = by_memory (Some (Check image cert costs)) k
-
-    of_cert : (text : List ℕ) (e : Ending) → IsAsBefore old.shelf new.shelf → CertFails text e → Cause old new (Some (Check image cert costs)) (line_of e ∷ []) e
-    of_cert text _ k (bad_cert number f) = by_cert (Some (Check image cert costs)) _ number k
-    of_cert text _ k cert_memory = by_memory (Some (Check image cert costs)) k
-
-    of_table : (text : List ℕ) (e : Ending) → number_of e ≡ 6 → CostsHeld old.shelf.files costs (Some text) → CostsFail (Some text) e → CostsRefused old.shelf.files (Some (Check image cert costs))
-    of_table text e n (table_held _ other h) f = check_refuses_costs image cert costs text e other h f n
-
-    of_costs : (text : Option (List ℕ)) (e : Ending) → IsAsBefore old.shelf new.shelf → CostsHeld old.shelf.files costs text → CostsFail text e →
-        Cause old new (Some (Check image cert costs)) (line_of e ∷ []) e
-    of_costs _ _ k h (no_document text f) = by_costs (Some (Check image cert costs)) _ 1 (of_table text (BadCosts 1) refl h (no_document text f)) k
-    of_costs _ _ k h (missing_class text class f) = by_cost (Some (Check image cert costs)) _ 2 class (of_table text (BadCost 2 class) refl h (missing_class text class f)) k
-    of_costs _ _ k h (wrong_cost text class f) = by_cost (Some (Check image cert costs)) _ 3 class (of_table text (BadCost 3 class) refl h (wrong_cost text class f)) k
-    of_costs _ _ k h (unknown_key text f) = by_costs (Some (Check image cert costs)) _ 4 (of_table text (BadCosts 4) refl h (unknown_key text f)) k
-    of_costs _ _ k h (costs_memory text) = by_memory (Some (Check image cert costs)) k
-
     of_decided : (image_text cert_text : List ℕ) (costs_text : Option (List ℕ)) (i : Parts) (c : CertParts) (p line : List ℕ) (e : Ending) →
         AreLoaded image cert costs old.shelf new.shelf image_text cert_text costs_text → AreRead image_text cert_text i c → CostsRead costs_text p → Decided i c p line e →
         Cause old new (Some (Check image cert costs)) (line ∷ []) e
@@ -128,25 +170,20 @@ module _ (old new : Outside) where
         l.kept
     of_decided image_text cert_text costs_text i c p _ _ l r q (not_accepted d f) = by_demand (Some (Check image cert costs)) _ d l.kept
 
-    of_unread : (image_text cert_text : List ℕ) (costs_text : Option (List ℕ)) (e : Ending) → AreLoaded image cert costs old.shelf new.shelf image_text cert_text costs_text →
-        Unread image_text cert_text costs_text e → Cause old new (Some (Check image cert costs)) (line_of e ∷ []) e
-    of_unread image_text cert_text costs_text _ l (image_fails e f) = of_image image_text e l.kept f
-    of_unread image_text cert_text costs_text _ l (cert_fails e i is f) = of_cert cert_text e l.kept f
-    of_unread image_text cert_text costs_text _ l (costs_fail e i c r f) = of_costs costs_text e l.kept l.costs_held f
-
     of_judged : (image_text cert_text : List ℕ) (costs_text : Option (List ℕ)) (line : List ℕ) (e : Ending) → AreLoaded image cert costs old.shelf new.shelf image_text cert_text costs_text →
         Judged image_text cert_text costs_text line e → Cause old new (Some (Check image cert costs)) (line ∷ []) e
-    of_judged image_text cert_text costs_text _ _ l (not_read e f) = of_unread image_text cert_text costs_text e l f
+    of_judged image_text cert_text costs_text _ _ l (not_read e f) = of_unread image cert costs (Some (Check image cert costs)) (check_names image cert costs) image_text cert_text costs_text e l f
     of_judged image_text cert_text costs_text _ _ l (decided i c p line e r q d) = of_decided image_text cert_text costs_text i c p line e l r q d
 
-    of_loads : (e : Ending) → LoadsFail image cert costs old.shelf new.shelf e → Cause old new (Some (Check image cert costs)) (line_of e ∷ []) e
-    of_loads _ (no_image e f) = of_load old new (Some (Check image cert costs)) image e (check_lacks image cert costs) f
-    of_loads _ (no_cert e text h f) = of_load old new (Some (Check image cert costs)) cert e (check_lacks_cert image cert costs text h) f
-    of_loads _ (no_costs e text other h i t f) = of_load old new (Some (Check image cert costs)) costs e (check_lacks_costs image cert costs text other h i t) f
-
     of_check : (due : List (List ℕ)) (e : Ending) → CheckEnds image cert costs old.shelf new.shelf due e → Cause old new (Some (Check image cert costs)) due e
-    of_check _ _ (not_loaded e f) = of_loads e f
+    of_check _ _ (not_loaded e f) = of_loads image cert costs (Some (Check image cert costs)) (check_names image cert costs) e f
     of_check _ _ (judged image_text cert_text costs_text line e l j) = of_judged image_text cert_text costs_text line e l j
+
+  of_exec : (image cert costs : List ℕ) (e : Ending) → ExecUnready image cert costs old.shelf new.shelf e → Cause old new (Some (Exec image cert costs)) (line_of e ∷ []) e
+  of_exec image cert costs _ (exec_not_loaded e f) = of_loads image cert costs (Some (Exec image cert costs)) (exec_names image cert costs) e f
+  of_exec image cert costs _ (exec_unapproved image_text cert_text costs_text e l f) =
+      of_unapproved image cert costs (Some (Exec image cert costs)) (exec_names image cert costs) image_text cert_text costs_text e l f
+  of_exec image cert costs _ (exec_memory k) = by_memory (Some (Exec image cert costs)) k
 
   of_gen : (n : ℕ) (due : List (List ℕ)) (e : Ending) → new.shelf ≡ old.shelf → GenEnds n due e → Cause old new (Some (Gen n)) due e
   of_gen n _ _ s generates = by_done (Some (Gen n)) _ tt (same_shelf old.shelf new.shelf s)
@@ -161,4 +198,5 @@ module _ (old new : Outside) where
   cause _ _ _ (rules_ends program due e f) =
       of_saying old new (Some (Rules program)) BreaksFirst IsRuled program due e (rules_lacks program) (rules_refused program) tt f
   cause _ _ _ (mean_ends program e f) = of_program old new (Some (Mean program)) BreaksFirst program e (mean_lacks program) (mean_refused program) f
+  cause _ _ _ (exec_ends image cert costs e f) = of_exec image cert costs e f
   cause _ _ _ (gen_ends n due e s f) = of_gen n due e s f

@@ -1,5 +1,5 @@
 -- What the checker's answer comes to.
-use Rattle.std.proofs.Common.{◌≡◌, ◌↔◌, IsTrue, ℕ, Bool, false, List, Option, Some, None, refl, sym, ap, subst, ◌∙◌}
+use Rattle.std.proofs.Common.{◌≡◌, ◌↔◌, IsTrue, ℕ, Bool, false, List, Option, Some, None, refl, sym, ap, subst, ◌∙◌, arith}
 use Rattle.pt_trace.specs.Verdict.{yes_line}
 use Rattle.pt_image.specs.declared.Parts.{Parts}
 use Rattle.tk_bound.specs.Walks.{IsCostOf, IsWorst}
@@ -12,8 +12,9 @@ use Rattle.tk_check.specs.declared.Answer.TheVariants.{Yes, No}
 use Rattle.tk_check.specs.Answers as answers
 use Rattle.pretc_run.specs.declared.endings.Ending.{Ending}
 use Rattle.pretc_run.specs.declared.endings.Ending.TheVariants.{Done, NotAccepted}
-use Rattle.pretc_run.specs.Endings.{line_of}
-use Rattle.pretc_top.specs.Check.{refusal_of, Decided, accepted, not_accepted}
+use Rattle.pretc_run.specs.Endings.{number_of, line_of}
+use Rattle.pretc_top.specs.Check.{refusal_of, Decided, accepted, not_accepted, AreRead, CostsRead}
+use Rattle.pretc_top.specs.Exec.{Unapproved, unaccepted}
 
 pub not_true : (b : Bool) → b ≡ false → IsTrue b → ⊥
 not_true b e h = cc
@@ -47,3 +48,18 @@ pub no_at : (image : Parts) (cert : CertParts) (costs : List ℕ) (answer : Answ
     Decided image cert costs (line_of (NotAccepted condition at level needed given)) (NotAccepted condition at level needed given)
 no_at image cert costs answer condition at level needed given a e =
     no_of_demand image cert costs answer condition at level needed given (first_failing (asks image cert costs)) refl a e
+
+pub yes_is : (answer : Answer) (reached : Bool) → answer ≡ Yes reached → answers.IsYes answer
+yes_is answer reached e = let P : Answer → Type 0 = λ a. answers.IsYes a in subst P (sym e) tt
+
+unaccepted_by : (image_text cert_text : List ℕ) (costs_text : Option (List ℕ)) (image : Parts) (cert : CertParts) (costs line : List ℕ) (e : Ending) → AreRead image_text cert_text image cert →
+    CostsRead costs_text costs → Decided image cert costs line e → number_of e ≡ 9 → Unapproved image_text cert_text costs_text e
+unaccepted_by image_text cert_text costs_text image cert costs _ _ r p (accepted reached y) n = absurd (omega (arith, n))
+unaccepted_by image_text cert_text costs_text image cert costs _ _ r p (not_accepted d f) n = unaccepted image cert costs d r p f
+
+-- a no, as `exec` says it
+pub unaccepted_at : (image_text cert_text : List ℕ) (costs_text : Option (List ℕ)) (image : Parts) (cert : CertParts) (costs : List ℕ) (answer : Answer) (condition at level needed : ℕ) (given : Option ℕ) →
+    AreRead image_text cert_text image cert → CostsRead costs_text costs → answers.Answers (first_failing (asks image cert costs)) answer → answer ≡ No condition at level needed given →
+    Unapproved image_text cert_text costs_text (NotAccepted condition at level needed given)
+unaccepted_at image_text cert_text costs_text image cert costs answer condition at level needed given r p a e =
+    unaccepted_by image_text cert_text costs_text image cert costs _ _ r p (no_at image cert costs answer condition at level needed given a e) refl

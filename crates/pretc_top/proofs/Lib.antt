@@ -1,5 +1,6 @@
 mod Called
 mod Causing
+mod Execs
 mod Judging
 mod Lines
 mod Meanings

@@ -10,18 +10,22 @@ use Rattle.pretc_run.specs.declared.endings.Ending.{Ending}
 use Rattle.pretc_run.specs.declared.endings.Ending.TheVariants.{Done, ReadFault, WantOfMemory, StoreFault, BadTrace}
 use Rattle.pretc_run.specs.Endings.{number_of, line_of}
 use Rattle.pretc_run.specs.Writing.{Wrote, BrokeOff, IsAnswered, Answers, answered, broke_off}
-use Rattle.pretc_run.specs.Running.{HasFailed, RunEnds, run_done, run_bad, run_fault, run_trapped, IsNext, next_tick, next_last}
+use Rattle.pretc_run.specs.Running.{HasFailed, RunEnds, run_done, run_bad, run_fault, run_trapped, IsTrapped, IsNext, next_tick, next_last}
 use Rattle.pretc_top.specs.declared.commands.Command.{Command}
-use Rattle.pretc_top.specs.declared.commands.Command.TheVariants.{Go, Mean}
+use Rattle.pretc_top.specs.declared.commands.Command.TheVariants.{Go, Mean, Exec}
 use Rattle.pc_meaning.specs.Programs.{program_of}
 use Rattle.pretc_run.specs.Meant.{width_of, meant_lines, MeanEnds, mean_done, mean_bad, mean_fault, mean_lacks, IsNextMeant, next_meant, next_end}
+use Rattle.mb_pfu.specs.declared.TrapKind.{TrapKind}
+use Rattle.mb_pfu.specs.declared.TrapKind.TheVariants.{BadAddress}
+use Rattle.mb_step.specs.Run.{Ticked, Trapped, run_of}
+use Rattle.pretc_top.specs.Exec.{IsApproved, exec_lines, AllTrapSafely, ExecRan, ExecPulled, ExecBroke, in_the_bound, behind_the_bound}
 use Rattle.pretc_top.specs.Mean.{IsMeant, MeanRan, MeanBroke}
 use Rattle.pretc_top.specs.Outside.{Outside, IsLater}
 use Rattle.pretc_top.specs.Loading.{IsAsBefore}
 use Rattle.pretc_top.specs.Go.{cycles_most, go_lines, IsMade, GoRan, GoBroke}
-use Rattle.pretc_top.specs.Comes.{Ends, no_command, go_ends, check_ends, print_ends, rules_ends, mean_ends, gen_ends, Ran, go_ran, mean_ran, Broke, go_broke, mean_broke, Comes, ends, ran, broke}
+use Rattle.pretc_top.specs.Comes.{Ends, no_command, go_ends, check_ends, print_ends, rules_ends, mean_ends, exec_ends, gen_ends, Ran, go_ran, exec_ran, mean_ran, Broke, go_broke, exec_broke, mean_broke, Comes, ends, ran, broke}
 use Rattle.pretc_top.specs.Causes.{BoundHolds, CostsRefused, IsRefusedBy, LacksFile, IsSent, Causes}
-use Rattle.pretc_top.specs.Stands.{OnlySaid, GoStopped, AfterReadFault, load_failed, pull_failed, mean_pull_failed, GoPulled, AfterWriteFault, before_the_trace, in_the_report, in_the_meaning, AfterMemory, memory_before, memory_stored, memory_at_a_tick, AfterBadTrace, go_bad_trace, mean_bad_trace, AfterStoreFault, go_store_failed}
+use Rattle.pretc_top.specs.Stands.{OnlySaid, GoStopped, AfterReadFault, load_failed, pull_failed, mean_pull_failed, exec_pull_failed, GoPulled, AfterWriteFault, before_the_trace, in_the_report, in_the_meaning, in_the_bound_line, behind_the_bound_line, AfterMemory, memory_before, memory_stored, memory_at_a_tick, AfterBadTrace, go_bad_trace, mean_bad_trace, exec_bad_trace, AfterTrap, exec_trapped, AfterStoreFault, go_store_failed}
 use Rattle.pretc_top.proofs.Causing.{Cause, by_done, by_refusal, by_usage, by_load, by_memory, by_stored, by_image, by_cert, by_costs, by_cost, by_demand, by_store, by_form, by_absence, cause}
 
 -- ---- an ending without a run, by the number that is answered
@@ -97,6 +101,10 @@ module _ (old new : Outside) where
   no_seven _ _ _ (by_usage s) n = absurd (omega (arith, n))
   no_seven _ _ _ c n = absurd (omega (arith, n))
 
+  no_ten : (command : Option (Command (List ℕ))) (due : List (List ℕ)) (e : Ending) → Cause old new command due e → number_of e ≢ 10
+  no_ten _ _ _ (by_usage s) n = absurd (omega (arith, n))
+  no_ten _ _ _ c n = absurd (omega (arith, n))
+
   rose_by : (command : Option (Command (List ℕ))) (due : List (List ℕ)) (e : Ending) → number_of e ≡ 3 → Cause old new command due e →
       Rose old.shelf.load_faults new.shelf.load_faults
   rose_by _ _ _ n (by_load command f) = f.rose
@@ -114,6 +122,7 @@ module _ (old new : Outside) where
   none_is_usage _ _ _ (print_ends program due e f) n = absurd (cc)
   none_is_usage _ _ _ (rules_ends program due e f) n = absurd (cc)
   none_is_usage _ _ _ (mean_ends program e f) n = absurd (cc)
+  none_is_usage _ _ _ (exec_ends image cert costs e f) n = absurd (cc)
   none_is_usage _ _ _ (gen_ends m due e s f) n = absurd (cc)
 
   never_four : (e : Ending) → number_of e ≢ 4
@@ -144,6 +153,7 @@ module _ (old new : Outside) where
         after_memory = λ a. memory_by command due e (is 5 a) c s h.wrote;
         bad_costs = λ a. costs_by command due e (is 6 a) c;
         bad_trace = λ a. absurd (no_seven command due e c (is 7 a));
+        after_trap = λ a. absurd (no_ten command due e c (is 10 a));
         store_fault = λ a. store_rose_by command due e (is 11 a) c;
         after_store_fault = λ a. store_by command due e (is 11 a) c s h.wrote;
         no_file = λ a. lacks_by command due e (is 17 a) c;
@@ -171,6 +181,7 @@ module _ (old new : Outside) where
         after_memory = λ a. absurd (omega (arith, a, is));
         bad_costs = λ a. absurd (omega (arith, a, is));
         bad_trace = λ a. absurd (omega (arith, a, is));
+        after_trap = λ a. absurd (omega (arith, a, is));
         store_fault = λ a. absurd (omega (arith, a, is));
         after_store_fault = λ a. absurd (omega (arith, a, is));
         no_file = λ a. absurd (omega (arith, a, is));
@@ -192,35 +203,24 @@ module _ (old new : Outside) where
 
 -- ---- a run
 
-module _ (program name : List ℕ) (old new : Outside) (image : Parts) (made : IsMade program name image old.shelf new.shelf) (rows : List (List ℤ)) where
-  stopped_fault : (last : List ℕ) (e : Ending) → RunEnds image unit cycles_most rows old.source new.source last e → Wrote old.sink new.sink (go_lines image rows ++ last ∷ []) →
-      number_of e ≡ 3 → AfterReadFault old new (Some (Go program name))
-  stopped_fault _ _ (run_fault ticked cut failed) w n = pull_failed program name failed (record { image = image; made = made; rows = rows; trace = cut; wrote = w })
-  stopped_fault _ _ r w n = absurd (omega (arith, n))
-
-  stopped_bad : (last : List ℕ) (e : Ending) → RunEnds image unit cycles_most rows old.source new.source last e → Wrote old.sink new.sink (go_lines image rows ++ last ∷ []) →
-      number_of e ≡ 7 → AfterBadTrace old new (Some (Go program name))
-  stopped_bad _ _ (run_bad rule line ticked bad stays) w n =
-      go_bad_trace program name rule line stays (record { image = image; made = made; rows = rows; trace = bad; wrote = w })
-  stopped_bad _ _ r w n = absurd (omega (arith, n))
-
-  run_rose : (last : List ℕ) (e : Ending) → RunEnds image unit cycles_most rows old.source new.source last e → number_of e ≡ 3 → Rose old.source.faults new.source.faults
+module _ (old new : Outside) (image : Parts) (costs : List ℕ) (most : ℕ) (rows : List (List ℤ)) where
+  run_rose : (last : List ℕ) (e : Ending) → RunEnds image costs most rows old.source new.source last e → number_of e ≡ 3 → Rose old.source.faults new.source.faults
   run_rose _ _ (run_fault ticked cut failed) n = failed.rose
   run_rose _ _ r n = absurd (omega (arith, n))
 
-  run_kept : (last : List ℕ) (e : Ending) → RunEnds image unit cycles_most rows old.source new.source last e → number_of e ≢ 3 → new.source.faults ≡ old.source.faults
+  run_kept : (last : List ℕ) (e : Ending) → RunEnds image costs most rows old.source new.source last e → number_of e ≢ 3 → new.source.faults ≡ old.source.faults
   run_kept _ _ (run_done ticked whole stays) n = stays
   run_kept _ _ (run_bad rule line ticked bad stays) n = stays
   run_kept _ _ (run_fault ticked cut failed) n = absurd (n refl)
   run_kept _ _ (run_trapped row kind at read ended trapped stays) n = stays
 
-  run_later : (last : List ℕ) (e : Ending) → RunEnds image unit cycles_most rows old.source new.source last e → old.source.faults ≤ new.source.faults
+  run_later : (last : List ℕ) (e : Ending) → RunEnds image costs most rows old.source new.source last e → old.source.faults ≤ new.source.faults
   run_later _ _ (run_done ticked whole stays) = omega (arith, stays)
   run_later _ _ (run_bad rule line ticked bad stays) = omega (arith, stays)
   run_later _ _ (run_fault ticked cut failed) = failed.later
   run_later _ _ (run_trapped row kind at read ended trapped stays) = omega (arith, stays)
 
-  run_other : (last : List ℕ) (e : Ending) (n : ℕ) → RunEnds image unit cycles_most rows old.source new.source last e → number_of e ≡ n → (n ≢ 0) → (n ≢ 3) → (n ≢ 7) → (n ≢ 10) → ⊥
+  run_other : (last : List ℕ) (e : Ending) (n : ℕ) → RunEnds image costs most rows old.source new.source last e → number_of e ≡ n → (n ≢ 0) → (n ≢ 3) → (n ≢ 7) → (n ≢ 10) → ⊥
   run_other _ _ n (run_done ticked whole stays) is a b c d = a (sym is)
   run_other _ _ n (run_bad rule line ticked bad stays) is a b c d = c (sym is)
   run_other _ _ n (run_fault ticked cut failed) is a b c d = b (sym is)
@@ -239,22 +239,34 @@ module _ (program name : List ℕ) (old new : Outside) (image : Parts) (made : I
   more : (row : List ℤ) → HasRead (length image.inputs) old.source.left new.source.left (rows ++ row ∷ []) → old.source.faults ≤ new.source.faults → Pulled
   more row h l = record { read = rows ++ row ∷ []; has_read = h; one_more = omega (arith, length-append rows (row ∷ [])); later = l }
 
-  pulled_last : (last : List ℕ) (e : Ending) → RunEnds image unit cycles_most rows old.source new.source last e → Pulled
+  pulled_last : (last : List ℕ) (e : Ending) → RunEnds image costs most rows old.source new.source last e → Pulled
   pulled_last _ _ (run_done ticked whole stays) = no_more ticked.read (omega (arith, stays))
   pulled_last _ _ (run_bad rule line ticked bad stays) = no_more ticked.read (omega (arith, stays))
   pulled_last _ _ (run_fault ticked cut failed) = no_more ticked.read failed.later
   pulled_last _ _ (run_trapped row kind at read ended trapped stays) = more row read (omega (arith, stays))
 
-  pulled : (line : List ℕ) → IsNext image unit cycles_most rows old.source new.source line → Pulled
+  pulled : (line : List ℕ) → IsNext image costs most rows old.source new.source line → Pulled
   pulled _ (next_tick row outputs cycles ticked tells stays) = more row ticked.read (omega (arith, stays))
   pulled _ (next_last e line ended) = pulled_last line e ended
+
+module _ (program name : List ℕ) (old new : Outside) (image : Parts) (made : IsMade program name image old.shelf new.shelf) (rows : List (List ℤ)) where
+  stopped_fault : (last : List ℕ) (e : Ending) → RunEnds image unit cycles_most rows old.source new.source last e → Wrote old.sink new.sink (go_lines image rows ++ last ∷ []) →
+      number_of e ≡ 3 → AfterReadFault old new (Some (Go program name))
+  stopped_fault _ _ (run_fault ticked cut failed) w n = pull_failed program name failed (record { image = image; made = made; rows = rows; trace = cut; wrote = w })
+  stopped_fault _ _ r w n = absurd (omega (arith, n))
+
+  stopped_bad : (last : List ℕ) (e : Ending) → RunEnds image unit cycles_most rows old.source new.source last e → Wrote old.sink new.sink (go_lines image rows ++ last ∷ []) →
+      number_of e ≡ 7 → AfterBadTrace old new (Some (Go program name))
+  stopped_bad _ _ (run_bad rule line ticked bad stays) w n =
+      go_bad_trace program name rule line stays (record { image = image; made = made; rows = rows; trace = bad; wrote = w })
+  stopped_bad _ _ r w n = absurd (omega (arith, n))
 
 by_go : (program name : List ℕ) (old new : Outside) (due : List (List ℕ)) (e : Ending) (answer : ℕ) → GoRan program name old new due e →
     IsAnswered due (number_of e) old.sink new.sink answer → Causes (Some (Go program name)) old new answer
 by_go program name old new due e answer g h =
     let is : (n : ℕ) → answer ≡ n → number_of e ≡ n = λ n a. sym h.answer_is ∙ a in
     let other : (n : ℕ) → answer ≡ n → n ≢ 0 → n ≢ 3 → n ≢ 7 → ⊥ = λ n a zero three seven.
-    run_other program name old new g.image g.made g.rows g.last e n g.ends (is n a) zero three seven (λ ten. g.untrapped (is n a ∙ ten)) in
+    run_other old new g.image unit cycles_most g.rows g.last e n g.ends (is n a) zero three seven (λ ten. g.untrapped (is n a ∙ ten)) in
     let P : List (List ℕ) → Type 0 = λ lines. Wrote old.sink new.sink lines in
     let wrote = subst P g.due_is h.wrote in
     let pushes : new.sink.faults ≡ old.sink.faults = h.wrote.faults in
@@ -265,31 +277,32 @@ by_go program name old new due e answer g h =
       refused = λ a. absurd (other 1 a (λ n. omega (arith, n)) (λ n. omega (arith, n)) (λ n. omega (arith, n)));
       usage = λ a. absurd (other 2 a (λ n. omega (arith, n)) (λ n. omega (arith, n)) (λ n. omega (arith, n)));
       usage_comes = λ n. absurd (cc);
-      read_fault = λ a. inr (run_rose program name old new g.image g.made g.rows g.last e g.ends (is 3 a));
+      read_fault = λ a. inr (run_rose old new g.image unit cycles_most g.rows g.last e g.ends (is 3 a));
       after_read_fault = λ a. stopped_fault program name old new g.image g.made g.rows g.last e g.ends wrote (is 3 a);
       write_fault = λ a. absurd (other 4 a (λ n. omega (arith, n)) (λ n. omega (arith, n)) (λ n. omega (arith, n)));
       after_write_fault = λ a. absurd (other 4 a (λ n. omega (arith, n)) (λ n. omega (arith, n)) (λ n. omega (arith, n)));
       after_memory = λ a. absurd (other 5 a (λ n. omega (arith, n)) (λ n. omega (arith, n)) (λ n. omega (arith, n)));
       bad_costs = λ a. absurd (other 6 a (λ n. omega (arith, n)) (λ n. omega (arith, n)) (λ n. omega (arith, n)));
       bad_trace = λ a. stopped_bad program name old new g.image g.made g.rows g.last e g.ends wrote (is 7 a);
+      after_trap = λ a. absurd (g.untrapped (is 10 a));
       store_fault = λ a. absurd (other 11 a (λ n. omega (arith, n)) (λ n. omega (arith, n)) (λ n. omega (arith, n)));
       after_store_fault = λ a. absurd (other 11 a (λ n. omega (arith, n)) (λ n. omega (arith, n)) (λ n. omega (arith, n)));
       no_file = λ a. absurd (other 17 a (λ n. omega (arith, n)) (λ n. omega (arith, n)) (λ n. omega (arith, n)));
       sent = λ a. record { lines = due; wrote = h.wrote; sent = h.sent };
       load_kept = λ three four. loads;
-      pull_kept = λ three four. run_kept program name old new g.image g.made g.rows g.last e g.ends (λ n. three (h.answer_is ∙ n));
+      pull_kept = λ three four. run_kept old new g.image unit cycles_most g.rows g.last e g.ends (λ n. three (h.answer_is ∙ n));
       store_kept = λ eleven four. stores;
       later = record {
         load_faults = omega (arith, loads);
         store_faults = omega (arith, stores);
-        source_faults = run_later program name old new g.image g.made g.rows g.last e g.ends;
+        source_faults = run_later old new g.image unit cycles_most g.rows g.last e g.ends;
         sink_faults = omega (arith, pushes);
       };
     }
 
 by_broken_go : (program name : List ℕ) (old new : Outside) (answer : ℕ) → answer ≡ 4 → GoBroke program name old new → Causes (Some (Go program name)) old new answer
 by_broken_go program name old new answer is g =
-    let p = pulled program name old new g.image g.made g.breaks.rows g.breaks.next g.breaks.is_next in
+    let p = pulled old new g.image unit cycles_most g.breaks.rows g.breaks.next g.breaks.is_next in
     let loads : new.shelf.load_faults ≡ old.shelf.load_faults = g.made.stored.load_faults in
     let stores : new.shelf.store_faults ≡ old.shelf.store_faults = g.made.stored.store_faults in
     failed old new (Some (Go program name)) answer is g.breaks.broke.rose
@@ -391,6 +404,7 @@ by_mean program old new due e answer g h =
       after_memory = λ a. meant_memory program old new g.meant g.rows g.last e g.ends wrote (is 5 a);
       bad_costs = λ a. absurd (other 6 a (λ n. omega (arith, n)) (λ n. omega (arith, n)) (λ n. omega (arith, n)) (λ n. omega (arith, n)));
       bad_trace = λ a. meant_bad program old new g.meant g.rows g.last e g.ends wrote (is 7 a);
+      after_trap = λ a. absurd (other 10 a (λ n. omega (arith, n)) (λ n. omega (arith, n)) (λ n. omega (arith, n)) (λ n. omega (arith, n)));
       store_fault = λ a. absurd (other 11 a (λ n. omega (arith, n)) (λ n. omega (arith, n)) (λ n. omega (arith, n)) (λ n. omega (arith, n)));
       after_store_fault = λ a. absurd (other 11 a (λ n. omega (arith, n)) (λ n. omega (arith, n)) (λ n. omega (arith, n)) (λ n. omega (arith, n)));
       no_file = λ a. absurd (other 17 a (λ n. omega (arith, n)) (λ n. omega (arith, n)) (λ n. omega (arith, n)) (λ n. omega (arith, n)));
@@ -423,9 +437,99 @@ by_broken_mean program old new answer is g =
     }))
     (record { load_faults = omega (arith, loads); store_faults = omega (arith, stores); source_faults = p.later; sink_faults = g.breaks.broke.later })
 
+-- ---- a run under a bound
+
+last_is_safe : (os : List Ticked) (kind : TrapKind) (at charged : ℕ) → AllTrapSafely (os ++ Trapped kind at charged ∷ []) → kind ≡ BadAddress
+last_is_safe [] kind at charged h = h.0
+last_is_safe (o ∷ os) kind at charged h = last_is_safe os kind at charged h.1
+
+module _ (image cert costs : List ℕ) (old new : Outside) (i : Parts) (c : List ℕ) (b : ℕ) (ok : IsApproved image cert costs old.shelf new.shelf i c b) (rows : List (List ℤ)) where
+  exec_fault : (last : List ℕ) (e : Ending) → RunEnds i c b rows old.source new.source last e → Wrote old.sink new.sink (exec_lines i c b rows ++ last ∷ []) →
+      number_of e ≡ 3 → AfterReadFault old new (Some (Exec image cert costs))
+  exec_fault _ _ (run_fault ticked cut failed) w n =
+      exec_pull_failed image cert costs failed (record { image_read = i; costs_read = c; bound = b; approved = ok; rows = rows; trace = cut; wrote = w })
+  exec_fault _ _ r w n = absurd (omega (arith, n))
+
+  exec_bad : (last : List ℕ) (e : Ending) → RunEnds i c b rows old.source new.source last e → Wrote old.sink new.sink (exec_lines i c b rows ++ last ∷ []) →
+      number_of e ≡ 7 → AfterBadTrace old new (Some (Exec image cert costs))
+  exec_bad _ _ (run_bad rule line ticked bad stays) w n =
+      exec_bad_trace image cert costs rule line stays (record { image_read = i; costs_read = c; bound = b; approved = ok; rows = rows; trace = bad; wrote = w })
+  exec_bad _ _ r w n = absurd (omega (arith, n))
+
+  exec_trap : (last : List ℕ) (e : Ending) → RunEnds i c b rows old.source new.source last e → Wrote old.sink new.sink (exec_lines i c b rows ++ last ∷ []) →
+      number_of e ≡ 10 → ((more : List (List ℤ)) → AllTrapSafely (run_of i c b more)) → AfterTrap old new (Some (Exec image cert costs))
+  exec_trap _ _ (run_trapped row kind at read ended trapped stays) w n safe =
+      let is : kind ≡ BadAddress = last_is_safe (run_of i c b rows) kind at trapped.charged (subst AllTrapSafely trapped.traps (safe (rows ++ row ∷ []))) in
+      let P : TrapKind → Type 0 = λ k. IsTrapped i c b rows row k at in
+      exec_trapped image cert costs row at (length rows) stays
+      (record { image_read = i; costs_read = c; bound = b; approved = ok; rows = rows; trace = (refl, subst P is trapped); wrote = w })
+  exec_trap _ _ r w n safe = absurd (omega (arith, n))
+
+-- the shelf's counts after the files of an accepted image were loaded
+approved_kept : (image cert costs : List ℕ) (old new : Outside) (i : Parts) (c : List ℕ) (b : ℕ) → IsApproved image cert costs old.shelf new.shelf i c b → IsAsBefore old.shelf new.shelf
+approved_kept image cert costs old new i c b ok = ok.loaded.kept
+
+by_exec : (image cert costs : List ℕ) (old new : Outside) (due : List (List ℕ)) (e : Ending) (answer : ℕ) → ExecRan image cert costs old new due e →
+    IsAnswered due (number_of e) old.sink new.sink answer → Causes (Some (Exec image cert costs)) old new answer
+by_exec image cert costs old new due e answer g h =
+    let is : (n : ℕ) → answer ≡ n → number_of e ≡ n = λ n a. sym h.answer_is ∙ a in
+    let other : (n : ℕ) → answer ≡ n → n ≢ 0 → n ≢ 3 → n ≢ 7 → n ≢ 10 → ⊥ = λ n a zero three seven ten.
+    run_other old new g.image_read g.costs_read g.bound g.rows g.last e n g.ends (is n a) zero three seven ten in
+    let P : List (List ℕ) → Type 0 = λ lines. Wrote old.sink new.sink lines in
+    let wrote = subst P g.due_is h.wrote in
+    let kept = approved_kept image cert costs old new g.image_read g.costs_read g.bound g.approved in
+    let pushes : new.sink.faults ≡ old.sink.faults = h.wrote.faults in
+    let loads : new.shelf.load_faults ≡ old.shelf.load_faults = kept.load_faults in
+    let stores : new.shelf.store_faults ≡ old.shelf.store_faults = kept.store_faults in
+    record {
+      bound = λ a. tt;
+      refused = λ a. absurd (other 1 a (λ n. omega (arith, n)) (λ n. omega (arith, n)) (λ n. omega (arith, n)) (λ n. omega (arith, n)));
+      usage = λ a. absurd (other 2 a (λ n. omega (arith, n)) (λ n. omega (arith, n)) (λ n. omega (arith, n)) (λ n. omega (arith, n)));
+      usage_comes = λ n. absurd (cc);
+      read_fault = λ a. inr (run_rose old new g.image_read g.costs_read g.bound g.rows g.last e g.ends (is 3 a));
+      after_read_fault = λ a. exec_fault image cert costs old new g.image_read g.costs_read g.bound g.approved g.rows g.last e g.ends wrote (is 3 a);
+      write_fault = λ a. absurd (other 4 a (λ n. omega (arith, n)) (λ n. omega (arith, n)) (λ n. omega (arith, n)) (λ n. omega (arith, n)));
+      after_write_fault = λ a. absurd (other 4 a (λ n. omega (arith, n)) (λ n. omega (arith, n)) (λ n. omega (arith, n)) (λ n. omega (arith, n)));
+      after_memory = λ a. absurd (other 5 a (λ n. omega (arith, n)) (λ n. omega (arith, n)) (λ n. omega (arith, n)) (λ n. omega (arith, n)));
+      bad_costs = λ a. absurd (other 6 a (λ n. omega (arith, n)) (λ n. omega (arith, n)) (λ n. omega (arith, n)) (λ n. omega (arith, n)));
+      bad_trace = λ a. exec_bad image cert costs old new g.image_read g.costs_read g.bound g.approved g.rows g.last e g.ends wrote (is 7 a);
+      after_trap = λ a. exec_trap image cert costs old new g.image_read g.costs_read g.bound g.approved g.rows g.last e g.ends wrote (is 10 a) g.safe;
+      store_fault = λ a. absurd (other 11 a (λ n. omega (arith, n)) (λ n. omega (arith, n)) (λ n. omega (arith, n)) (λ n. omega (arith, n)));
+      after_store_fault = λ a. absurd (other 11 a (λ n. omega (arith, n)) (λ n. omega (arith, n)) (λ n. omega (arith, n)) (λ n. omega (arith, n)));
+      no_file = λ a. absurd (other 17 a (λ n. omega (arith, n)) (λ n. omega (arith, n)) (λ n. omega (arith, n)) (λ n. omega (arith, n)));
+      sent = λ a. record { lines = due; wrote = h.wrote; sent = h.sent };
+      load_kept = λ three four. loads;
+      pull_kept = λ three four. run_kept old new g.image_read g.costs_read g.bound g.rows g.last e g.ends (λ n. three (h.answer_is ∙ n));
+      store_kept = λ eleven four. stores;
+      later = record {
+        load_faults = omega (arith, loads);
+        store_faults = omega (arith, stores);
+        source_faults = run_later old new g.image_read g.costs_read g.bound g.rows g.last e g.ends;
+        sink_faults = omega (arith, pushes);
+      };
+    }
+
+by_broken_exec : (image cert costs : List ℕ) (old new : Outside) (answer : ℕ) → answer ≡ 4 → ExecBroke image cert costs old new → Causes (Some (Exec image cert costs)) old new answer
+by_broken_exec image cert costs old new answer is (in_the_bound i c b ok s cut) =
+    let kept = approved_kept image cert costs old new i c b ok in
+    let pulls : new.source.faults ≡ old.source.faults = source_same old new s in
+    let loads : new.shelf.load_faults ≡ old.shelf.load_faults = kept.load_faults in
+    let stores : new.shelf.store_faults ≡ old.shelf.store_faults = kept.store_faults in
+    failed old new (Some (Exec image cert costs)) answer is cut.rose (in_the_bound_line image cert costs s (in_the_bound i c b ok s cut))
+    (record { load_faults = omega (arith, loads); store_faults = omega (arith, stores); source_faults = omega (arith, pulls); sink_faults = cut.later })
+by_broken_exec image cert costs old new answer is (behind_the_bound g) =
+    let p = pulled old new g.image_read g.costs_read g.bound g.rows g.next g.is_next in
+    let kept = approved_kept image cert costs old new g.image_read g.costs_read g.bound g.approved in
+    let loads : new.shelf.load_faults ≡ old.shelf.load_faults = kept.load_faults in
+    let stores : new.shelf.store_faults ≡ old.shelf.store_faults = kept.store_faults in
+    failed old new (Some (Exec image cert costs)) answer is g.broke.rose (behind_the_bound_line image cert costs g p.read p.has_read p.one_more)
+    (record { load_faults = omega (arith, loads); store_faults = omega (arith, stores); source_faults = p.later; sink_faults = g.broke.later })
+
 pub causes : (command : Option (Command (List ℕ))) (old new : Outside) (answer : ℕ) → Comes command old new answer → Causes command old new answer
 causes command old new answer (ends due e en s h) = by_ends old new command due e answer en s h
 causes _ old new answer (ran _ _ (go_ran program name due e g) h) = by_go program name old new due e answer g h
 causes _ old new answer (broke is (go_broke program name g)) = by_broken_go program name old new answer is g
 causes _ old new answer (ran _ _ (mean_ran program due e g) h) = by_mean program old new due e answer g h
 causes _ old new answer (broke is (mean_broke program g)) = by_broken_mean program old new answer is g
+causes _ old new answer (ran _ _ (exec_ran image cert costs due e g) h) = by_exec image cert costs old new due e answer g h
+causes _ old new answer (broke is (exec_broke image cert costs g)) = by_broken_exec image cert costs old new answer is g

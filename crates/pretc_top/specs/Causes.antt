@@ -12,13 +12,13 @@ use Rattle.pc_verdict.specs.Sources.{Breaks}
 use Rattle.pc_verdict.specs.Verdicts.{BreaksFirst}
 use Rattle.pretc_run.specs.Writing.{Wrote}
 use Rattle.pretc_top.specs.declared.commands.Command.{Command}
-use Rattle.pretc_top.specs.declared.commands.Command.TheVariants.{Go, Check, Print, Rules, Mean}
+use Rattle.pretc_top.specs.declared.commands.Command.TheVariants.{Go, Check, Print, Rules, Mean, Exec}
 use Rattle.pretc_top.specs.Outside.{Outside, IsLater}
 use Rattle.pretc_top.specs.Loading.{source_most}
 use Rattle.pretc_top.specs.Check.{image_most, cert_most, costs_most, unit_word, IsImageText, IsCertText, CostsHeld, CostsRead, CostsFail}
 use Rattle.pretc_run.specs.declared.endings.Ending.{Ending}
 use Rattle.pretc_run.specs.Endings.{number_of}
-use Rattle.pretc_top.specs.Stands.{AfterReadFault, AfterWriteFault, AfterMemory, AfterBadTrace, AfterStoreFault}
+use Rattle.pretc_top.specs.Stands.{AfterReadFault, AfterWriteFault, AfterMemory, AfterBadTrace, AfterTrap, AfterStoreFault}
 
 -- the program was loaded, and breaks this rule first, of those that are looked at
 pub record BreaksRule (B : List ℕ → Rule → Span → Type 0) (program : List ℕ) (files : Option Files) : Type 0 where
@@ -45,6 +45,11 @@ pub data LacksFile (files : Option Files) : Option (Command (List ℕ)) → Type
       costs ≢ unit_word → Lacks files costs → LacksFile files (Some (Check image cert costs))
   print_lacks : (program : List ℕ) → Lacks files program → LacksFile files (Some (Print program))
   rules_lacks : (program : List ℕ) → Lacks files program → LacksFile files (Some (Rules program))
+  exec_lacks : (image cert costs : List ℕ) → Lacks files image → LacksFile files (Some (Exec image cert costs))
+  exec_lacks_cert : (image cert costs text : List ℕ) → Holds files image image_most text → Lacks files cert →
+      LacksFile files (Some (Exec image cert costs))
+  exec_lacks_costs : (image cert costs text other : List ℕ) → Holds files image image_most text → Holds files cert cert_most other →
+      costs ≢ unit_word → Lacks files costs → LacksFile files (Some (Exec image cert costs))
   mean_lacks : (program : List ℕ) → Lacks files program → LacksFile files (Some (Mean program))
 
 -- the files of a check were loaded, and the bound of the certificate bounds the image, under the costs that it names
@@ -68,6 +73,8 @@ pub record IsBound (image cert costs : List ℕ) (files : Option Files) : Type 0
 pub data CostsRefused (files : Option Files) : Option (Command (List ℕ)) → Type 0 where
   check_refuses_costs : (image cert costs text : List ℕ) (e : Ending) → costs ≢ unit_word → Holds files costs costs_most text →
       CostsFail (Some text) e → number_of e ≡ 6 → CostsRefused files (Some (Check image cert costs))
+  exec_refuses_costs : (image cert costs text : List ℕ) (e : Ending) → costs ≢ unit_word → Holds files costs costs_most text →
+      CostsFail (Some text) e → number_of e ≡ 6 → CostsRefused files (Some (Exec image cert costs))
 
 -- the words are a command; where it is a check, the bound of its certificate bounds its image
 abbrev pub BoundHolds : Option Files → Option (Command (List ℕ)) → Type 0
@@ -94,6 +101,7 @@ pub record Causes (command : Option (Command (List ℕ))) (old new : Outside) (a
   pub after_memory : answer ≡ 5 → AfterMemory old new command
   pub bad_costs : answer ≡ 6 → CostsRefused old.shelf.files command
   pub bad_trace : answer ≡ 7 → AfterBadTrace old new command
+  pub after_trap : answer ≡ 10 → AfterTrap old new command
   pub store_fault : answer ≡ 11 → Rose old.shelf.store_faults new.shelf.store_faults
   pub after_store_fault : answer ≡ 11 → AfterStoreFault old new command
   pub no_file : answer ≡ 17 → LacksFile old.shelf.files command

@@ -8,11 +8,12 @@ use Rattle.pretc_run.specs.declared.endings.Ending.TheVariants.{Usage}
 use Rattle.pretc_run.specs.Endings.{number_of, line_of, write_fault}
 use Rattle.pretc_run.specs.Writing.{IsAnswered, Answers}
 use Rattle.pretc_top.specs.declared.commands.Command.{Command}
-use Rattle.pretc_top.specs.declared.commands.Command.TheVariants.{Go, Check, Print, Rules, Mean, Gen}
+use Rattle.pretc_top.specs.declared.commands.Command.TheVariants.{Go, Check, Print, Rules, Mean, Gen, Exec}
 use Rattle.pretc_top.specs.Outside.{Outside}
 use Rattle.pretc_top.specs.Go.{IsUnready, GoRan, GoBroke}
 use Rattle.pretc_top.specs.Check.{CheckEnds}
 use Rattle.pretc_top.specs.Says.{SaysEnds, IsPrinted, IsRuled, GenEnds}
+use Rattle.pretc_top.specs.Exec.{ExecUnready, ExecRan, ExecBroke}
 use Rattle.pretc_top.specs.Mean.{MeanRan, MeanBroke}
 use Rattle.pretc_top.specs.Loading.{ProgramFails}
 
@@ -36,17 +37,22 @@ pub data Ends (old new : Outside) : Option (Command (List ℕ)) → List (List �
       SaysEnds BreaksFirst IsRuled program old.shelf new.shelf due e → Ends old new (Some (Rules program)) due e
   mean_ends : (program : List ℕ) (e : Ending) → ProgramFails BreaksFirst program old.shelf new.shelf e →
       Ends old new (Some (Mean program)) (line_of e ∷ []) e
+  exec_ends : (image cert costs : List ℕ) (e : Ending) → ExecUnready image cert costs old.shelf new.shelf e →
+      Ends old new (Some (Exec image cert costs)) (line_of e ∷ []) e
   gen_ends : (n : ℕ) (due : List (List ℕ)) (e : Ending) → new.shelf ≡ old.shelf → GenEnds n due e → Ends old new (Some (Gen n)) due e
 
 -- how a command ends that has run on the trace, with the lines of its report
 pub data Ran (old new : Outside) : Option (Command (List ℕ)) → List (List ℕ) → Ending → Type 0 where
   go_ran : (program image : List ℕ) (due : List (List ℕ)) (e : Ending) → GoRan program image old new due e →
       Ran old new (Some (Go program image)) due e
+  exec_ran : (image cert costs : List ℕ) (due : List (List ℕ)) (e : Ending) → ExecRan image cert costs old new due e →
+      Ran old new (Some (Exec image cert costs)) due e
   mean_ran : (program : List ℕ) (due : List (List ℕ)) (e : Ending) → MeanRan program old new due e → Ran old new (Some (Mean program)) due e
 
 -- the report of a command that runs on the trace broke off
 pub data Broke (old new : Outside) : Option (Command (List ℕ)) → Type 0 where
   go_broke : (program image : List ℕ) → GoBroke program image old new → Broke old new (Some (Go program image))
+  exec_broke : (image cert costs : List ℕ) → ExecBroke image cert costs old new → Broke old new (Some (Exec image cert costs))
   mean_broke : (program : List ℕ) → MeanBroke program old new → Broke old new (Some (Mean program))
 
 -- what a call comes to: it ends and leaves the source as it was, or it has run on the trace, or its report broke off

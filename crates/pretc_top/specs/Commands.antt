@@ -3,7 +3,7 @@ use Rattle.std.specs.Prelude.{◌+◌, ◌*◌, ◌-◌, nat_le, ◌&&◌, not, 
 use Rattle.std.specs.Option.{option_map}
 use Rattle.std.specs.Str.{bytes_eq}
 use Rattle.pretc_top.specs.declared.commands.Command.{Command}
-use Rattle.pretc_top.specs.declared.commands.Command.TheVariants.{Go, Check, Print, Rules, Mean, Gen}
+use Rattle.pretc_top.specs.declared.commands.Command.TheVariants.{Go, Check, Print, Rules, Mean, Gen, Exec}
 
 -- a decimal from 1 to 62 without a leading zero
 abbrev pub of_digit : ℕ → Option ℕ
@@ -33,5 +33,7 @@ of_two verb word =
 abbrev pub command_of : List (List ℕ) → Option (Command (List ℕ))
 command_of (verb ∷ word ∷ []) = of_two verb word
 command_of (verb ∷ program ∷ image ∷ []) = if bytes_eq verb (codes "go") && not (bytes_eq program image) then Some (Go program image) else None
-command_of (verb ∷ image ∷ cert ∷ costs ∷ []) = if bytes_eq verb (codes "check") then Some (Check image cert costs) else None
+command_of (verb ∷ image ∷ cert ∷ costs ∷ []) =
+    if bytes_eq verb (codes "check") then Some (Check image cert costs)
+    else if bytes_eq verb (codes "exec") then Some (Exec image cert costs) else None
 command_of words = None

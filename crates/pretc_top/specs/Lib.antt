@@ -2,6 +2,7 @@ pub mod Causes
 pub mod Check
 pub mod Comes
 pub mod Commands
+pub mod Exec
 pub mod Go
 pub mod Loading
 pub mod Mean

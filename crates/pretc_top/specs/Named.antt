@@ -2,7 +2,7 @@
 use Rattle.std.specs.Prelude.{ℕ, List, Option, Some, None}
 use Rattle.std.specs.Borrow.{Bor}
 use Rattle.pretc_top.specs.declared.commands.Command.{Command}
-use Rattle.pretc_top.specs.declared.commands.Command.TheVariants.{Go, Check, Print, Rules, Mean, Gen}
+use Rattle.pretc_top.specs.declared.commands.Command.TheVariants.{Go, Check, Print, Rules, Mean, Gen, Exec}
 
 abbrev pub named : Command (Bor (List ℕ)) → Command (List ℕ)
 named (Go program image) = Go program.now image.now
@@ -11,3 +11,4 @@ named (Print program) = Print program.now
 named (Rules program) = Rules program.now
 named (Mean program) = Mean program.now
 named (Gen n) = Gen n
+named (Exec image cert costs) = Exec image.now cert.now costs.now

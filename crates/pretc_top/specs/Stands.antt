@@ -4,12 +4,14 @@ use Rattle.pt_trace.specs.Given.{HasRead, IsBad, IsCut}
 use Rattle.pt_image.specs.declared.image.Parts.{Parts}
 use Rattle.pt_image.specs.Text.{text_of}
 use Rattle.pretc_run.specs.declared.endings.Ending.{Ending}
-use Rattle.pretc_run.specs.declared.endings.Ending.TheVariants.{ReadFault, WantOfMemory, BadTrace, StoreFault}
+use Rattle.pretc_run.specs.declared.endings.Ending.TheVariants.{ReadFault, WantOfMemory, BadTrace, Trapped, StoreFault}
 use Rattle.pretc_run.specs.Endings.{line_of}
-use Rattle.pretc_run.specs.Running.{HasFailed}
+use Rattle.pretc_run.specs.Running.{HasFailed, IsTrapped}
+use Rattle.mb_pfu.specs.declared.TrapKind.TheVariants.{BadAddress}
+use Rattle.pretc_top.specs.Exec.{IsApproved, exec_lines, ExecPulled, ExecBroke}
 use Rattle.pretc_run.specs.Writing.{first_of, Wrote, BrokeOff}
 use Rattle.pretc_top.specs.declared.commands.Command.{Command}
-use Rattle.pretc_top.specs.declared.commands.Command.TheVariants.{Go, Mean}
+use Rattle.pretc_top.specs.declared.commands.Command.TheVariants.{Go, Mean, Exec}
 use Rattle.pretc_top.specs.Outside.{Outside}
 use Rattle.pretc_top.specs.Loading.{IsAsBefore, IsFailedLoad}
 use Rattle.pc_meaning.specs.Programs.{program_of}
@@ -40,12 +42,26 @@ pub record MeanStopped (program : List ℕ) (old new : Outside) (e : Ending) (P 
   pub trace : P (width_of (program_of meant.typing)) rows
   pub wrote : Wrote old.sink new.sink (meant_lines (program_of meant.typing) rows ++ line_of e ∷ [])
 
+-- `exec` accepted its certificate, the trace gave these rows, and the lines of the bound and of their ticks were written and then
+-- that of this ending
+pub record ExecStopped (image cert costs : List ℕ) (old new : Outside) (e : Ending) (P : Parts → List ℕ → ℕ → (rows : List (List ℤ)) → Type 0) : Type 0 where
+  pub image_read : Parts
+  pub costs_read : List ℕ
+  pub bound : ℕ
+  pub approved : IsApproved image cert costs old.shelf new.shelf image_read costs_read bound
+  pub rows : List (List ℤ)
+  pub trace : P image_read costs_read bound rows
+  pub wrote : Wrote old.sink new.sink (exec_lines image_read costs_read bound rows ++ line_of e ∷ [])
+
 -- 3: a load failed, or a pull of the trace, and the rows are then those of its lines that stand whole in what was pulled
 pub data AfterReadFault (old new : Outside) : Option (Command (List ℕ)) → Type 0 where
   load_failed : (command : Option (Command (List ℕ))) → IsFailedLoad old.shelf new.shelf → OnlySaid old new ReadFault → AfterReadFault old new command
   pull_failed : (program image : List ℕ) → HasFailed old.source new.source →
       GoStopped program image old new ReadFault (λ width rows. IsCut width old.source.left new.source.left rows) →
       AfterReadFault old new (Some (Go program image))
+  exec_pull_failed : (image cert costs : List ℕ) → HasFailed old.source new.source →
+      ExecStopped image cert costs old new ReadFault (λ i c b rows. IsCut (length i.inputs) old.source.left new.source.left rows) →
+      AfterReadFault old new (Some (Exec image cert costs))
   mean_pull_failed : (program : List ℕ) → HasFailed old.source new.source →
       MeanStopped program old new ReadFault (λ width rows. IsCut width old.source.left new.source.left rows) →
       AfterReadFault old new (Some (Mean program))
@@ -77,6 +93,11 @@ pub data AfterWriteFault (old new : Outside) : Option (Command (List ℕ)) → T
   before_the_trace : (command : Option (Command (List ℕ))) (due whole rest : List (List ℕ)) (e : Ending) → Ends old new command due e →
       new.source ≡ old.source → due ≡ whole ++ rest → BrokeOff old.sink new.sink whole (first_of rest) → AfterWriteFault old new command
   in_the_report : (program image : List ℕ) → GoPulled program image old new → AfterWriteFault old new (Some (Go program image))
+  in_the_bound_line : (image cert costs : List ℕ) → new.source ≡ old.source → ExecBroke image cert costs old new →
+      AfterWriteFault old new (Some (Exec image cert costs))
+  behind_the_bound_line : (image cert costs : List ℕ) (p : ExecPulled image cert costs old new) (read : List (List ℤ)) →
+      HasRead (length p.image_read.inputs) old.source.left new.source.left read → length read ≤ length p.rows + 1 →
+      AfterWriteFault old new (Some (Exec image cert costs))
   in_the_meaning : (program : List ℕ) → MeanPulled program old new → AfterWriteFault old new (Some (Mean program))
 
 -- 5: nothing was stored, or the image was, before a report; or `mean` found no memory for the tick on one row more
@@ -93,9 +114,18 @@ pub data AfterBadTrace (old new : Outside) : Option (Command (List ℕ)) → Typ
   go_bad_trace : (program image : List ℕ) (rule line : ℕ) → new.source.faults ≡ old.source.faults →
       GoStopped program image old new (BadTrace rule line) (λ width rows. IsBad width old.source.left rows rule line) →
       AfterBadTrace old new (Some (Go program image))
+  exec_bad_trace : (image cert costs : List ℕ) (rule line : ℕ) → new.source.faults ≡ old.source.faults →
+      ExecStopped image cert costs old new (BadTrace rule line) (λ i c b rows. IsBad (length i.inputs) old.source.left rows rule line) →
+      AfterBadTrace old new (Some (Exec image cert costs))
   mean_bad_trace : (program : List ℕ) (rule line : ℕ) → new.source.faults ≡ old.source.faults →
       MeanStopped program old new (BadTrace rule line) (λ width rows. IsBad width old.source.left rows rule line) →
       AfterBadTrace old new (Some (Mean program))
+
+-- 10: the tick on one row more, which is read, trapped at a bad address
+pub data AfterTrap (old new : Outside) : Option (Command (List ℕ)) → Type 0 where
+  exec_trapped : (image cert costs : List ℕ) (row : List ℤ) (at tick : ℕ) → new.source.faults ≡ old.source.faults →
+      ExecStopped image cert costs old new (Trapped at tick) (λ i c b rows. (tick ≡ length rows) × IsTrapped i c b rows row BadAddress at) →
+      AfterTrap old new (Some (Exec image cert costs))
 
 -- 11: the image was built, and its store failed
 pub data AfterStoreFault (old new : Outside) : Option (Command (List ℕ)) → Type 0 where

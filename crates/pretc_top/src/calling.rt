@@ -5,6 +5,7 @@ ghost use Rattle.pretc_top.specs.Causes.{Causes};
 
 use crate::checking::check_files;
 use crate::commands::{Command, command_of};
+use crate::executing::exec;
 use crate::generating::print_generated;
 use crate::going::go;
 use crate::meaning::mean;
@@ -32,6 +33,9 @@ fn called<H: Shelf, I: Source, O: Sink>(
         Some(Command::Go(program, image)) => go(alloc, program, image, shelf, input, out),
         Some(Command::Check(image, cert, costs)) => {
             check_files(alloc, image, cert, costs, shelf, out)
+        }
+        Some(Command::Exec(image, cert, costs)) => {
+            exec(alloc, image, cert, costs, shelf, input, out)
         }
         Some(Command::Print(program)) => print_program(alloc, program, shelf, out),
         Some(Command::Rules(program)) => rules_of_program(alloc, program, shelf, out),

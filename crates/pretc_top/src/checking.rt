@@ -24,8 +24,8 @@ const CERT_MOST: u64 = 1099511627777;
 
 const COSTS_MOST: u64 = 65537;
 
-// The image whose text it is.
-fn read_image(alloc: Global, text: &Text) -> Result<Image, Ending>
+/// The image whose text it is.
+pub fn read_image(alloc: Global, text: &Text) -> Result<Image, Ending>
     ensures read { IfOk result (λ image. IsImageText text.now image) }
     ensures failed { IfErr result (λ e. ImageFails text.now e) }
 {
@@ -39,8 +39,8 @@ fn read_image(alloc: Global, text: &Text) -> Result<Image, Ending>
     }
 }
 
-// The certificate whose text it is.
-fn read_cert(alloc: Global, text: &Text) -> Result<Cert, Ending>
+/// The certificate whose text it is.
+pub fn read_cert(alloc: Global, text: &Text) -> Result<Cert, Ending>
     ensures read { IfOk result (λ cert. IsCertText text.now cert) }
     ensures failed { IfErr result (λ e. CertFails text.now e) }
 {
@@ -51,8 +51,8 @@ fn read_cert(alloc: Global, text: &Text) -> Result<Cert, Ending>
     }
 }
 
-// The costs that a table's text says, or the units where there is no table.
-fn costs_of(alloc: Global, text: &Option<Text>) -> Result<Costs, Ending>
+/// The costs that a table's text says, or the units where there is no table.
+pub fn costs_of(alloc: Global, text: &Option<Text>) -> Result<Costs, Ending>
     ensures read { IfOk result (λ costs. CostsRead text.now costs) }
     ensures failed { IfErr result (λ e. CostsFail text.now e) }
 {
@@ -99,12 +99,12 @@ fn decided(image: &Image, cert: &Cert, costs: &Costs) -> Saying
     }
 }
 
-// The texts of the three files; there is none of costs where each class costs 1.
+/// The texts of the three files; there is none of costs where each class costs 1.
 #[derive(Drop)]
-struct Texts {
-    image: Text,
-    cert: Text,
-    costs: Option<Text>,
+pub struct Texts {
+    pub image: Text,
+    pub cert: Text,
+    pub costs: Option<Text>,
 }
 
 // What the texts come to.
@@ -148,8 +148,8 @@ fn load_costs<H: Shelf>(alloc: Global, costs: &Text, shelf: &mut H) -> Result<Op
     }
 }
 
-// The bytes of the files, the image first.
-fn load_all<H: Shelf>(
+/// The bytes of the files, the image first.
+pub fn load_all<H: Shelf>(
     alloc: Global,
     image: &Text,
     cert: &Text,

@@ -17,6 +17,8 @@ pub enum Command<N> {
     Print(N),
     /// `rules PROGRAM`
     Rules(N),
+    /// `exec IMAGE CERT COSTS`
+    Exec(N, N, N),
     /// `mean PROGRAM`
     Mean(N),
     /// `gen N`
@@ -103,6 +105,8 @@ pub fn command_of(words: &[Text]) -> Option<Command<&Text>>
         [verb, image, cert, costs] => {
             if verb.bytes() == b"check".as_slice() {
                 Some(Command::Check(image, cert, costs))
+            } else if verb.bytes() == b"exec".as_slice() {
+                Some(Command::Exec(image, cert, costs))
             } else {
                 None
             }

@@ -8,6 +8,7 @@
 mod calling;
 mod checking;
 mod commands;
+mod executing;
 mod generating;
 mod going;
 mod meaning;

@@ -69,3 +69,10 @@ returns-in-Some-Gen g c =
       comes = subst P (sym (ap (option_map named) (c.in-Some-Gen.is ∙ ap Some c.in-Some-Gen.field-0-is)) ∙ c.command_of.ensures)
           (gen_comes _ _ _ _ _ _ _ refl c.print_generated.ensures.concludes);
     }
+
+pub returns-in-Some-Exec : goal.returns-in-Some-Exec
+returns-in-Some-Exec g c =
+    let P : Option (Command (List ℕ)) → Type 0 = λ command. Comes command
+    (outside (g.H.Shelf.told c.args.shelf.now) (g.I.Source.told c.args.input.now) (g.O.Sink.told c.args.out.now))
+    (outside (g.H.Shelf.told c.exec.new.shelf) (g.I.Source.told c.exec.new.input) (g.O.Sink.told c.exec.new.out)) c.exec.result in
+    record { comes = subst P (sym (ap (option_map named) (c.in-Some-Exec.is ∙ ap Some c.in-Some-Exec.field-0-is)) ∙ c.command_of.ensures) c.exec.ensures.comes }

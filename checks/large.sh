@@ -1,5 +1,6 @@
 #!/usr/bin/env bash
-# The built program on sources near the greatest size: each kind of long list is read, printed as its canonical text, and judged.
+# The built program on sources near the greatest size: each kind of long list is read, printed as its canonical text, and judged;
+# and on a long trace, which takes no more memory than a short one.
 set -u
 . "$(dirname "${BASH_SOURCE[0]}")/common/program.bash"
 
@@ -51,5 +52,23 @@ size="$(wc -c <threads.pc)"
 rules threads 1 "refused Z2 $size $size"
 awk 'BEGIN { printf "void f00000() { }"; for (i = 1; i < 30000; i++) printf "void f%05d() { f%05d(); }", i, i - 1; printf "void main() { f29999(); }" }' >calls.pc
 rules calls 1 "refused Z6 427 433"
+# a trace of 100,000 lines, and the greatest memory that the run of each trace takes, in KiB
+memory() {
+  yes 4 | head -"$1" >trace
+  seq 0 $(($1 - 1)) | awk '{ print "tick " $1 ": 5 cycles " ($1 == 0 ? 8 : $1 == 1 ? 4 : 3) } END { print "ticks " NR " worst 8" }' >wanted
+  python3 - "$program" go "$top/examples/p1.pc" p1.im >peak <<'PYTHON'
+import resource, subprocess, sys
+with open("trace", "rb") as trace, open("out", "wb") as out:
+    status = subprocess.run(sys.argv[1:], stdin=trace, stdout=out).returncode
+print(status, resource.getrusage(resource.RUSAGE_CHILDREN).ru_maxrss)
+PYTHON
+  read -r status peak <peak
+  expect 0 wanted "a trace of $1 lines"
+}
+memory 10
+short="$peak"
+memory 100000
+[ "$peak" -le $((short + 1024)) ] || wrong "a trace of 100000 lines: $peak KiB of memory, and $short KiB for ten lines"
+echo "large: $peak KiB of memory for a trace of 100000 lines, $short KiB for ten"
 [ "$failed" = 0 ] && echo "large: all as they must be"
 exit "$failed"

@@ -152,11 +152,42 @@ line "no file"; "$program" check "$image" missing - </dev/null >out; status=$?
 expect 17 wanted "a missing certificate"
 line "read fault"; "$program" check folder "$cert" - </dev/null >out; status=$?
 expect 3 wanted "a folder in place of the image"
+# exec: the bound and the report of the accepted image; a certificate that isn't accepted runs nothing
 printf '4\n5\n' >trace
+printf 'bound 8\ntick 0: 5 cycles 7\ntick 1: 6 cycles 8\nticks 2 worst 8\n' >wanted
+"$program" exec "$image" "$cert" - <trace >out; status=$?
+expect 0 wanted "the counter runs"
+printf 'bound 8\nticks 0 worst 0\n' >wanted; "$program" exec "$image" "$cert" - </dev/null >out; status=$?
+expect 0 wanted "the counter on the empty trace"
+printf 'bound 8\ntick 0: 5 cycles 7\ntrace T1 line 2\n' >wanted; printf '4\nx\n' | "$program" exec "$image" "$cert" - >out; status=$?
+expect 7 wanted "the counter on a bad line"
+line "no A7 at 0 level 0 needed 8 given 7"; "$program" exec "$image" narrow - <trace >out; status=$?
+expect 9 wanted "exec with a bound that is too small"
+line "costs C4"; "$program" exec "$image" "$cert" more <trace >out; status=$?
+expect 6 wanted "exec with a table with one key more"
+line "no file"; "$program" exec "$image" missing - <trace >out; status=$?
+expect 17 wanted "exec without a certificate"
+line "read fault"; "$program" exec folder "$cert" - <trace >out; status=$?
+expect 3 wanted "exec of a folder"
+sed -e 's/^bound 8$/bound 26/' -e 's/^T 0 0 0 5 -$/T 0 0 0 11 -/' -e 's/^T 0 0 0 4 -$/T 0 0 0 9 -/' -e 's/^T 0 0 0 3 -$/T 0 0 0 7 -/' \
+  -e 's/^T 0 0 0 2 -$/T 0 0 0 6 -/' -e 's/^T 0 0 0 1 -$/T 0 0 0 4 -/' -e 's/^5 -$/11 -/' "$cert" >dear
+line "yes bound 26 reached"; "$program" check "$image" dear "$table" </dev/null >out; status=$?
+expect 0 wanted "a certificate for a table of costs"
+printf 'bound 26\ntick 0: 5 cycles 24\ntick 1: 6 cycles 26\nticks 2 worst 26\n' >wanted
+"$program" exec "$image" dear "$table" <trace >out; status=$?
+expect 0 wanted "the counter runs at a table of costs"
+printf 'ARPRET 1\ncode 3\ne8600008\nfc200000\nb800fff8\nmemory 2\n0\n0\ninputs 0\noutputs 0\nslots 1\n0\naborts 0\npauses 1\n1 0 0\nforks 0\n' >far
+printf 'PRETCERT 1\nbound 4\nat 3\nT 0 0 0 2 -\nT 0 0 0 1 -\nT 0 0 0 3 -\nloops 0\nslots 1\n3 -\nwalk 1\np 1\nchoices 0\n\n' >farcert
+printf 'bound 4\ntrace T2 line 1\n' >wanted; "$program" exec far farcert - <trace >out; status=$?
+expect 7 wanted "a trace of another width"
+printf 'bound 4\ntrap BadAddress at 0 tick 0\n' >wanted; printf '\n\n' >blank; "$program" exec far farcert - <blank >out; status=$?
+expect 10 wanted "a load past the memory"
 if [ -e /dev/full ]; then
   "$program" go "$first" im5 <trace >/dev/full; status=$?
   [ "$status" = 4 ] || wrong "a full device: status $status"
   [ -e im5 ] || wrong "a full device: no image"
+  "$program" exec "$image" "$cert" - <trace >/dev/full; status=$?
+  [ "$status" = 4 ] || wrong "exec to a full device: status $status"
 fi
 "$program" go "$first" im6 <trace >&-; status=$?
 [ "$status" = 4 ] || wrong "a closed output: status $status"

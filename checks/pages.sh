@@ -27,7 +27,7 @@ done < <(cd "$top" && grep -ohE '`crates/[A-Za-z0-9_/.-]+`' README.md docs/*.md 
 # and so is every crate, but in pages that speak of what was or of what is to come
 while read -r name; do
   [ -d "$top/crates/$name" ] || wrong "the pages name the crate $name, which isn't there"
-done < <(cd "$top" && grep -ohE '\b(pt|pc|mb|tk)_[a-z_]+\b' README.md $(ls docs/*.md | grep -vE 'gate-times|DECISIONS|architecture') | sort -u)
+done < <(cd "$top" && grep -ohE '\b(pt|pc|mb|tk)_[a-z_]+\b' README.md $(ls docs/*.md | grep -vE 'DECISIONS|architecture') | sort -u)
 # every link between the pages goes somewhere
 while IFS=: read -r file link; do
   [ -e "$(dirname "$top/$file")/${link%%#*}" ] || wrong "$file: no $link"

@@ -11,6 +11,8 @@ mod drawn_units;
 #[cfg(test)]
 mod draws;
 #[cfg(test)]
+mod machine_tests;
+#[cfg(test)]
 mod nesting_tests;
 #[cfg(test)]
 mod runs;

@@ -5,9 +5,7 @@ use crate::slow_unit::SlowUnit;
 use mb_core::Trap;
 use mb_isa::{Class, Costs, Instr, Reg, class, decode, takes_upper};
 use mb_pfu::{AbortParts, Slot, TrapKind};
-use pt_base::Memory;
 use pt_image::{Image, Point};
-use std::alloc::Global;
 
 // Where a step leads: on, at a place; or the slot rests; or a condition has ended, and holds or not.
 #[derive(Clone, Copy)]
@@ -17,27 +15,33 @@ enum Led {
     Concludes(bool),
 }
 
+// The machine of an image with four memory words.
 #[derive(Drop)]
 pub(crate) struct SlowMachine {
     registers: [i32; 32],
-    memory: Vec<i32>,
+    memory: [i32; 4],
     unit: SlowUnit,
     upper: Option<i16>,
     charged: u64,
 }
 
 impl SlowMachine {
-    pub(crate) fn load(alloc: Global, image: &Image) -> Result<SlowMachine, Memory> {
+    pub(crate) fn load(image: &Image) -> SlowMachine {
         image.ranges();
-        Ok(SlowMachine {
+        let mut memory = [0; 4];
+        for (word, value) in memory.iter_mut().zip(image.memory()) {
+            *word = *value;
+        }
+        SlowMachine {
             registers: [0; 32],
-            memory: image.memory().to_vec(alloc)?,
+            memory,
             unit: SlowUnit::begin(image.slots().len() as u32, image.slots()[0]),
             upper: None,
             charged: 0,
-        })
+        }
     }
 
+    /// What a slot does.
     pub(crate) fn slot(&self, s: u32) -> Slot {
         self.unit.state(s)
     }
@@ -63,15 +67,20 @@ impl SlowMachine {
         }
     }
 
-    // The memory word of a byte.
-    fn cell(&mut self, byte: i32) -> Result<&mut i32, TrapKind> {
+    // The memory word of a byte, and its value.
+    fn cell(&self, byte: i32) -> Result<(usize, i32), TrapKind> {
         let byte = byte.cast_unsigned();
-        if byte % 4 != 0 {
-            return Err(TrapKind::BadAddress);
+        let place = (byte / 4) as usize;
+        match self.memory.get(place) {
+            Some(value) if byte % 4 == 0 => Ok((place, *value)),
+            _ => Err(TrapKind::BadAddress),
         }
-        self.memory
-            .get_mut((byte / 4) as usize)
-            .ok_or(TrapKind::BadAddress)
+    }
+
+    fn store(&mut self, place: usize, value: i32) {
+        if let Some(word) = self.memory.get_mut(place) {
+            *word = value;
+        }
     }
 
     // What two registers give.
@@ -266,13 +275,13 @@ impl SlowMachine {
             return Ok((class(&i, false), next));
         }
         if let Some((rd, byte)) = self.load_of(i, upper) {
-            let value = *self.cell(byte)?;
+            let (_, value) = self.cell(byte)?;
             self.write(rd, value);
             return Ok((class(&i, false), next));
         }
         if let Some((rd, byte)) = self.store_of(i, upper) {
-            let value = self.read(rd);
-            *self.cell(byte)? = value;
+            let (place, _) = self.cell(byte)?;
+            self.store(place, self.read(rd));
             return Ok((class(&i, false), next));
         }
         if let Some((taken, imm)) = self.branch_of(i) {
@@ -350,9 +359,7 @@ impl SlowMachine {
             self.unit.answer(holds);
         }
         for (place, value) in image.inputs().iter().zip(inputs) {
-            if let Some(word) = self.memory.get_mut(*place as usize) {
-                *word = *value;
-            }
+            self.store(*place as usize, *value);
         }
         self.unit.wake();
         for _ in 0..=most {
@@ -366,30 +373,34 @@ impl SlowMachine {
         Ok(())
     }
 
-    /// One tick: its cycles and its outputs, or its trap.
+    /// One tick: its cycles, or its trap.
     pub(crate) fn tick(
         &mut self,
-        alloc: Global,
         image: &Image,
         costs: &Costs,
         inputs: &[i32],
         most: u64,
-    ) -> Result<Result<(u64, Vec<i32>), Trap>, Memory> {
+    ) -> Result<u64, Trap> {
         let signals = 1 + image.inputs().len() as u64 + image.outputs().len() as u64;
         self.charged = costs.cost(Class::Tick).wrapping_mul(signals);
         if self.charged > most {
-            return Ok(Err(Trap {
+            return Err(Trap {
                 kind: TrapKind::Late,
                 at: 0,
-            }));
+            });
         }
-        if let Err(trap) = self.phases(image, costs, inputs, most) {
-            return Ok(Err(trap));
+        self.phases(image, costs, inputs, most)?;
+        Ok(self.charged)
+    }
+
+    /// Whether the outputs have these values.
+    pub(crate) fn gives(&self, image: &Image, values: &[i32]) -> bool {
+        let places = image.outputs();
+        for (i, place) in places.iter().enumerate() {
+            if values.get(i) != self.memory.get(*place as usize) {
+                return false;
+            }
         }
-        let mut outputs = Vec::new(alloc);
-        for place in image.outputs() {
-            outputs.push(self.memory.get(*place as usize).copied().unwrap_or(0))?;
-        }
-        Ok(Ok((self.charged, outputs)))
+        places.len() == values.len()
     }
 }

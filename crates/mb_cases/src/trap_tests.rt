@@ -40,19 +40,47 @@ fn all_trap_so(alloc: Global, table: &str) -> Result<bool, Memory> {
     Ok(true)
 }
 
-const EACH: &str =
-    "30630001,100,OutOfCode 1;OutOfCode 1;\nffffffff,100,BadWord 0;BadWord 0;\nb0000001 10632000,100,WrongPlace 1;WrongPlace 1;\nfd400000,100,WrongPlace 0;WrongPlace 0;\nfc200000,100,WrongPlace 0;WrongPlace 0;\nfce00001 fc400000,100,WrongPlace 1;WrongPlace 1;\nfc600001,100,WrongPlace 0;WrongPlace 0;\nfca00000,100,TableFull 0;TableFull 0;\nfcc00000,100,TableEmpty 0;TableEmpty 0;\ne8600008,100,BadAddress 0;BadAddress 0;\nb8000010,100,OutOfCode 0;OutOfCode 0;\nb8000000,5,Late 0;Late 0;\nb8000000,0,Late 0;Late 0;";
+const EACH: &str = concat!(
+    "30630001,100,OutOfCode 1;OutOfCode 1;\n",
+    "ffffffff,100,BadWord 0;BadWord 0;\n",
+    "b0000001 10632000,100,WrongPlace 1;WrongPlace 1;\n",
+    "fd400000,100,WrongPlace 0;WrongPlace 0;\n",
+    "fc200000,100,WrongPlace 0;WrongPlace 0;\n",
+    "fce00001 fc400000,100,WrongPlace 1;WrongPlace 1;\n",
+    "fc600001,100,WrongPlace 0;WrongPlace 0;\n",
+    "fca00000,100,TableFull 0;TableFull 0;\n",
+    "fcc00000,100,TableEmpty 0;TableEmpty 0;\n",
+    "e8600008,100,BadAddress 0;BadAddress 0;\n",
+    "b8000010,100,OutOfCode 0;OutOfCode 0;\n",
+    "b8000000,5,Late 0;Late 0;\n",
+    "b8000000,0,Late 0;Late 0;",
+);
 
 // Each of these meets two traps at once, or a trap behind a branch that isn't taken.
-const FIRST_OF_TWO: &str =
-    "b0000001 ffffffff,100,BadWord 1;BadWord 1;\nfc600000 fc600000 fc600000 fc600000 fc600000 fc600000 fc600000 fc600000 fc600000,100,TableFull 8;TableFull 8;\nfc600000 fc600000 fc600000 fc600000 fc600000 fc600000 fc600000 fc600000 fca00009 fc600000,100,WrongPlace 9;WrongPlace 9;\nfca00001 fc800000,100,WrongPlace 1;WrongPlace 1;\nfc800000,100,TableEmpty 0;TableEmpty 0;\ne8600008,1,BadAddress 0;BadAddress 0;\nb8000010,1,OutOfCode 0;OutOfCode 0;\nbc000010,1,OutOfCode 0;OutOfCode 0;\nbc200010 fc200000,2,WrongPlace 1;WrongPlace 1;";
+const FIRST_OF_TWO: &str = concat!(
+    "b0000001 ffffffff,100,BadWord 1;BadWord 1;\n",
+    "fc600000 fc600000 fc600000 fc600000 fc600000 fc600000 fc600000 fc600000 fc600000,100,TableFull 8;TableFull 8;\n",
+    "fc600000 fc600000 fc600000 fc600000 fc600000 fc600000 fc600000 fc600000 fca00009 fc600000,100,WrongPlace 9;WrongPlace 9;\n",
+    "fca00001 fc800000,100,WrongPlace 1;WrongPlace 1;\n",
+    "fc800000,100,TableEmpty 0;TableEmpty 0;\n",
+    "e8600008,1,BadAddress 0;BadAddress 0;\n",
+    "b8000010,1,OutOfCode 0;OutOfCode 0;\n",
+    "bc000010,1,OutOfCode 0;OutOfCode 0;\n",
+    "bc200010 fc200000,2,WrongPlace 1;WrongPlace 1;",
+);
 
 // Slot 1 forks slot 2, which slot 0 has started.
-const BUSY: &str =
-    "ARPRET 1\ncode 4\nfc000102\nfc400000\nfc000201\nfc400000\nmemory 0\ninputs 0\noutputs 0\nslots 3\n0\n2\n3\naborts 0\npauses 0\nforks 2\n0 0 0\n2 1 0\n";
+const BUSY: &str = concat!(
+    "ARPRET 1\ncode 4\nfc000102\nfc400000\nfc000201\nfc400000\n",
+    "memory 0\ninputs 0\noutputs 0\nslots 3\n0\n2\n3\n",
+    "aborts 0\npauses 0\nforks 2\n0 0 0\n2 1 0\n",
+);
 
-const BUSY_UNLISTED: &str =
-    "ARPRET 1\ncode 4\nfc000102\nfc400000\nfc000201\nfc400000\nmemory 0\ninputs 0\noutputs 0\nslots 3\n0\n2\n3\naborts 0\npauses 0\nforks 1\n0 0 0\n";
+const BUSY_UNLISTED: &str = concat!(
+    "ARPRET 1\ncode 4\nfc000102\nfc400000\nfc000201\nfc400000\n",
+    "memory 0\ninputs 0\noutputs 0\nslots 3\n0\n2\n3\n",
+    "aborts 0\npauses 0\nforks 1\n0 0 0\n",
+);
 
 #[test]
 fn each_trap(rt: HostRuntime) -> Result<(), Fail> {

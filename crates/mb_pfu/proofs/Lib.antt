@@ -13,6 +13,5 @@ pub mod Refill
 pub mod Dues
 pub mod Firsts
 pub mod Laws
-pub mod Places
 pub mod DueLists
 pub mod DueCuts

@@ -287,14 +287,3 @@ answer_at fired t =
 -- the next test is answered
 abbrev pub test_answered : Bool → Tree → Tree
 test_answered fired t = at_slot due (answer_at fired) (λ u. u) 0 t
-
--- a ready slot goes on at a place
-abbrev pub runs_at : ℕ → Tree → Tree
-runs_at place (Leaf watches (Running old)) = Leaf watches (Running place)
-runs_at place (Leaf watches (Pausing old)) = Leaf watches (Pausing old)
-runs_at place (Leaf watches Finished) = Leaf watches Finished
-runs_at place (Waits watches at lo group) = Waits watches at lo group
-
--- slot s is ready at a place
-abbrev pub at_place : ℕ → ℕ → Tree → Tree
-at_place s place t = at_slot (numbered s) (runs_at place) (λ u. u) 0 t

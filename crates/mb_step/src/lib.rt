@@ -2,8 +2,8 @@
 //! whether a conditional branch is taken, and whether a condition holds. The machine is one instance, with its registers
 //! and memory; the free tick is another, with a list of choices.
 //!
-//! Read `Control`, `Words`, `Step`, `Tick`, `Cells`, `Free` and `Follows` in `specs/` in this order. The two functions
-//! below do nothing: their contracts are the laws that tie the two instances together.
+//! Read `Control`, `Words`, `Step`, `Tick`, `Cells`, `Run`, `Free`, `Follows` and `Laws` in `specs/` in this order. The two
+//! functions below do nothing: their contracts are the laws that tie the two instances together.
 #![tactic(auto)]
 
 ghost use Rattle.mb_step.specs.Laws.{TicksAreFollowed, TicksArePaid};

@@ -10,9 +10,6 @@ pub record ReadSoFar (base : ℕ) (digits : List ℕ) (index value : ℕ) : Type
   pub small : value < 4294967296
   pub whole : value * base ^ length (drop index digits) + value_of base (drop index digits) ≡ value_of base digits
 
-pub read_begins : (base : ℕ) (digits : List ℕ) → ReadSoFar base digits 0 0
-read_begins base digits = record { small = omega arith; whole = grind arith }
-
 at_least_one : (base n : ℕ) → 1 ≤ base → 1 ≤ base ^ n
 at_least_one base zero h = rw (pow-zero) (omega arith)
 at_least_one base (suc n) h = rw (pow-suc) (grind (arith, mul-le-mul, at_least_one base n h))

@@ -1,5 +1,5 @@
 -- What the rules on loops promise of the trees that the meaning takes.
-use Rattle.std.proofs.Common.{◌≡◌, ℕ, zero, suc, ◌+◌, ◌<◌, ◌≤◌, Bool, true, false, ◌&&◌, ◌||◌, not, List, [], ◌∷◌, ◌++◌, map, length, Option, Some, None, refl, sym, ap, subst, ◌∙◌, append_assoc, append-nil, length-append, arith}
+use Rattle.std.proofs.Common.{◌≡◌, ℕ, zero, suc, ◌+◌, ◌<◌, Bool, true, false, ◌&&◌, ◌||◌, List, [], ◌∷◌, ◌++◌, map, length, Option, Some, None, refl, sym, ap, subst, ◌∙◌, append_assoc, append-nil, length-append, arith}
 use Rattle.std.specs.Prelude.{Contains, slice_get, unwrap_or}
 use Rattle.std.specs.List.{list_all}
 use Rattle.pt_base.proofs.Elements.{in_head, in_tail, in_left, in_right}
@@ -11,34 +11,34 @@ use Rattle.pc_ast.specs.declared.statements.Stmt.TheOpen.{Stmt-F, Skip, Assign, 
 use Rattle.pc_typed.specs.declared.typed.Function.{Function}
 use Rattle.pc_typed.specs.Typing.{Typing}
 use Rattle.pc_typed.specs.Keeping.{IsTyped}
-use Rattle.pc_typed.specs.Uses.{holds_pause}
+use Rattle.pc_typed.specs.Uses.{joined, holds_pause}
 use Rattle.pc_typed.specs.Finishing as typed
 use Rattle.pc_typed.proofs.Cuts.{is_false}
-use Rattle.pc_rules.specs.Marks.{Mark, Loop, Aborted, joined, one_more, all_marks, else_marks, marks_step, marks, function_marks, program_marks}
+use Rattle.pc_rules.specs.Nests.{Nest, Loop, Aborted, one_more, all_nests, nests_step, nests, function_nests, program_nests}
 use Rattle.pc_rules.specs.Judging.{may_finish, pauses as may_pause, IsWithin}
 use Rattle.pc_meaning.specs.declared.places.Room.{Room}
 use Rattle.pc_meaning.specs.Tree.{Expression, Statement, Statements, skip, assign, call_of, block, if_so, repeat, loop, eot, par, abort, none, each, Routine}
 use Rattle.pc_meaning.specs.Programs.{rooms_of, Numbering, numbering_of, loop_from, statements_from, statement_step, statement_of, statements_of, routine_of, program_of}
-use Rattle.pc_meaning.specs.Promises.{pauses, is_known, finishes, all_finish, Lasts, AllLast, AllBelow, Below, EachBelow, finishing_from, finishing_of, RoutinesLast}
+use Rattle.pc_meaning.specs.Promises.{is_known, finishes, all_finish, Lasts, AllLast, AllBelow, finishing_from, finishing_of, RoutinesLast}
 use Rattle.pc_meaning.proofs.Bridge.{same_pause, same_finish, same_finishing}
 use Rattle.pc_lower.specs.Aborts.{aborts_of}
-use Rattle.pc_lower.specs.Sound.{Fits, AllFit, RoutinesFit, ProgramFits}
+use Rattle.pc_lower.specs.Sound.{Fits, AllFit, RoutinesFit}
 use Rattle.pc_lower.specs.Loops.{LoopsKept, AllLoopsKept, RoutinesLoopsKept}
 use Rattle.pc_lower.proofs.Promised.{typed_fits}
 
--- ---- from the marks of a statement
+-- ---- from the loops and aborts of a statement
 
 module _ (rooms : List Room) (n : Numbering) (whole : List Bool) where
-  abbrev Good : Mark → Type 0
+  abbrev Good : Nest → Type 0
   Good (Loop span None body loops) = typed.finishes whole body ≡ false
   Good (Loop span (Some most) body loops) = holds_pause body ≡ false
   Good (Aborted span aborts) = Unit {0}
 
-  abbrev AllGood : List Mark → Type 0
-  AllGood ms = (m : Mark) → Contains ms m → Good m
+  abbrev AllGood : List Nest → Type 0
+  AllGood ms = (m : Nest) → Contains ms m → Good m
 
   abbrev Kept : Stmt ℕ → Type 0
-  Kept s = (a l : ℕ) → AllGood (marks s a l) → LoopsKept whole (statement_of rooms n s)
+  Kept s = (a l : ℕ) → AllGood (nests s a l) → LoopsKept whole (statement_of rooms n s)
 
   abbrev Known : Type 0
   Known = (s : Stmt ℕ) × Kept s
@@ -46,49 +46,49 @@ module _ (rooms : List Room) (n : Numbering) (whole : List Bool) where
   abbrev bare : Stmt-F ℕ Known → Stmt-F ℕ (Stmt ℕ)
   bare x = map-Stmt ℕ Known (Stmt ℕ) (λ s. s.0) x
 
-  abbrev Marking : Type 0
-  Marking = ℕ → ℕ → List Mark
+  abbrev Nesting : Type 0
+  Nesting = ℕ → ℕ → List Nest
 
-  abbrev beside : Stmt ℕ → Stmt ℕ × Marking
-  beside s = (s, marks s)
+  abbrev beside : Stmt ℕ → Stmt ℕ × Nesting
+  beside s = (s, nests s)
 
-  all_kept : (all : List Known) (a l : ℕ) → AllGood (all_marks (map beside (map (λ s. s.0) all)) a l) → AllLoopsKept whole (statements_from (map (statement_of rooms n) (map (λ s. s.0) all)))
+  all_kept : (all : List Known) (a l : ℕ) → AllGood (all_nests (map beside (map (λ s. s.0) all)) a l) → AllLoopsKept whole (statements_from (map (statement_of rooms n) (map (λ s. s.0) all)))
   all_kept [] a l h = tt
-  all_kept (s ∷ all) a l h = (s.1 a l (λ m c. h m (in_left (marks s.0 a l) _ m c)), all_kept all a l (λ m c. h m (in_right (marks s.0 a l) _ m c)))
+  all_kept (s ∷ all) a l h = (s.1 a l (λ m c. h m (in_left (nests s.0 a l) _ m c)), all_kept all a l (λ m c. h m (in_right (nests s.0 a l) _ m c)))
 
-  loop_kept : (span : Span) (most : Option ℕ) (test : Expression) (body : Known) (a l : ℕ) → AllGood (Loop span most body.0 l ∷ marks body.0 a (one_more most l)) → LoopsKept whole (loop_from most test (statement_of rooms n body.0))
+  loop_kept : (span : Span) (most : Option ℕ) (test : Expression) (body : Known) (a l : ℕ) → AllGood (Loop span most body.0 l ∷ nests body.0 a (one_more most l)) → LoopsKept whole (loop_from most test (statement_of rooms n body.0))
   loop_kept span None test body a l h =
-      (same_finish rooms n whole body.0 ∙ h (Loop span None body.0 l) (in_head _ (marks body.0 a l)), body.1 a l (λ m c. h m (in_tail (Loop span None body.0 l) m (marks body.0 a l) c)))
+      (same_finish rooms n whole body.0 ∙ h (Loop span None body.0 l) (in_head _ (nests body.0 a l)), body.1 a l (λ m c. h m (in_tail (Loop span None body.0 l) m (nests body.0 a l) c)))
   loop_kept span (Some most) test body a l h =
-      (same_pause rooms n body.0 ∙ h (Loop span (Some most) body.0 l) (in_head _ (marks body.0 a (l + 1))), body.1 a (l + 1) (λ m c. h m (in_tail (Loop span (Some most) body.0 l) m (marks body.0 a (l + 1)) c)))
+      (same_pause rooms n body.0 ∙ h (Loop span (Some most) body.0 l) (in_head _ (nests body.0 a (l + 1))), body.1 a (l + 1) (λ m c. h m (in_tail (Loop span (Some most) body.0 l) m (nests body.0 a (l + 1)) c)))
 
-  level_kept : (x : Stmt-F ℕ Known) (a l : ℕ) → AllGood (marks_step (map-Stmt ℕ (Stmt ℕ) (Stmt ℕ × Marking) beside (bare x)) a l) → LoopsKept whole (statement_step rooms n (map-Stmt ℕ (Stmt ℕ) Statement (statement_of rooms n) (bare x)))
+  level_kept : (x : Stmt-F ℕ Known) (a l : ℕ) → AllGood (nests_step (map-Stmt ℕ (Stmt ℕ) (Stmt ℕ × Nesting) beside (bare x)) a l) → LoopsKept whole (statement_step rooms n (map-Stmt ℕ (Stmt ℕ) Statement (statement_of rooms n) (bare x)))
   level_kept Skip a l h = tt
   level_kept (Assign goal e) a l h = tt
   level_kept (Call goal k es) a l h = tt
   level_kept (Block all) a l h = all_kept all a l h
-  level_kept (If test first None) a l h = (first.1 a l (λ m c. h m (in_left (marks first.0 a l) [] m c)), tt)
+  level_kept (If test first None) a l h = (first.1 a l (λ m c. h m (in_left (nests first.0 a l) [] m c)), tt)
   level_kept (If test first (Some second)) a l h =
-      (first.1 a l (λ m c. h m (in_left (marks first.0 a l) (marks second.0 a l) m c)), second.1 a l (λ m c. h m (in_right (marks first.0 a l) (marks second.0 a l) m c)))
+      (first.1 a l (λ m c. h m (in_left (nests first.0 a l) (nests second.0 a l) m c)), second.1 a l (λ m c. h m (in_right (nests first.0 a l) (nests second.0 a l) m c)))
   level_kept (While span test most body) a l h = loop_kept span most (Rattle.pc_meaning.specs.Programs.expression_of rooms test) body a l h
   level_kept (Eot span) a l h = tt
   level_kept (Par span threads) a l h = tt
-  level_kept (Abort span weak body test) a l h = body.1 (a + 1) l (λ m c. h m (in_tail (Aborted span a) m (marks body.0 (a + 1) l) c))
+  level_kept (Abort span weak body test) a l h = body.1 (a + 1) l (λ m c. h m (in_tail (Aborted span a) m (nests body.0 (a + 1) l) c))
 
   statement_kept : (s : Stmt ℕ) → Kept s
   statement_kept = ind-Stmt ℕ Kept (λ x y is.
       subst (λ z. Kept (roll-Stmt ℕ z)) is
       (let below = bare y in
-      let marked : (a l : ℕ) → marks (roll-Stmt ℕ below) a l ≡ marks_step (map-Stmt ℕ (Stmt ℕ) (Stmt ℕ × Marking) beside below) a l = λ a l. ap (λ f. f a l) (para-roll-Stmt ℕ Marking marks_step below) in
+      let marked : (a l : ℕ) → nests (roll-Stmt ℕ below) a l ≡ nests_step (map-Stmt ℕ (Stmt ℕ) (Stmt ℕ × Nesting) beside below) a l = λ a l. ap (λ f. f a l) (para-roll-Stmt ℕ Nesting nests_step below) in
       λ a l h. subst (LoopsKept whole) (sym (fold-roll-Stmt ℕ Statement (statement_step rooms n) below)) (level_kept y a l (subst AllGood (marked a l) h))))
 
-  body_kept : (all : List (Stmt ℕ)) → AllGood (joined (map (λ s. marks s 0 0) all)) → AllLoopsKept whole (statements_of rooms n all)
+  body_kept : (all : List (Stmt ℕ)) → AllGood (joined (map (λ s. nests s 0 0) all)) → AllLoopsKept whole (statements_of rooms n all)
   body_kept [] h = tt
-  body_kept (s ∷ all) h = (statement_kept s 0 0 (λ m c. h m (in_left (marks s 0 0) _ m c)), body_kept all (λ m c. h m (in_right (marks s 0 0) _ m c)))
+  body_kept (s ∷ all) h = (statement_kept s 0 0 (λ m c. h m (in_left (nests s 0 0) _ m c)), body_kept all (λ m c. h m (in_right (nests s 0 0) _ m c)))
 
-  routines_kept : (fs : List Function) → AllGood (joined (map function_marks fs)) → RoutinesLoopsKept whole (map (routine_of rooms n) fs)
+  routines_kept : (fs : List Function) → AllGood (joined (map function_nests fs)) → RoutinesLoopsKept whole (map (routine_of rooms n) fs)
   routines_kept [] h = tt
-  routines_kept (f ∷ fs) h = (body_kept f.body (λ m c. h m (in_left (function_marks f) _ m c)), routines_kept fs (λ m c. h m (in_right (function_marks f) _ m c)))
+  routines_kept (f ∷ fs) h = (body_kept f.body (λ m c. h m (in_left (function_nests f) _ m c)), routines_kept fs (λ m c. h m (in_right (function_nests f) _ m c)))
 
 -- ---- what is known of more functions changes nothing
 
@@ -160,7 +160,7 @@ loops_kept t within =
     let n : Numbering = numbering_of t.functions in
     subst (λ w. RoutinesLoopsKept w (program_of t).routines) (sym (same_finishing rooms n [] t.functions)) (routines_kept rooms n (typed.finishing t.functions) t.functions good)
   where
-    good : (m : Mark) → Contains (program_marks t) m → Good (rooms_of t.cells) (numbering_of t.functions) (typed.finishing t.functions) m
+    good : (m : Nest) → Contains (program_nests t) m → Good (rooms_of t.cells) (numbering_of t.functions) (typed.finishing t.functions) m
     good (Loop span None body loops) c = is_false _ (λ e. within.rules _ _ (may_finish span body loops c e))
     good (Loop span (Some most) body loops) c = is_false _ (λ e. within.rules _ _ (may_pause span most body loops c e))
     good (Aborted span aborts) c = tt

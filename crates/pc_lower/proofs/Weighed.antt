@@ -1,5 +1,5 @@
 -- The weights of the trees that the meaning takes are those of the program.
-use Rattle.std.proofs.Common.{◌≡◌, ℕ, zero, suc, ◌+◌, ◌*◌, Bool, List, [], ◌∷◌, ◌++◌, map, Option, Some, None, refl, sym, ap, subst, ◌∙◌, arith, sum_by}
+use Rattle.std.proofs.Common.{◌≡◌, ℕ, ◌+◌, List, [], ◌∷◌, ◌++◌, map, Option, Some, None, refl, sym, ap, subst, ◌∙◌, arith, sum_by}
 use Rattle.std.specs.Prelude.{sum}
 use Rattle.std.proofs.lemmas.List.Sums.{sum_by-cons}
 use Rattle.pt_base.specs.declared.operators.BinOp.{BinOp}
@@ -15,7 +15,8 @@ use Rattle.pc_ast.specs.declared.statements.Stmt.TheViews.{roll-Stmt}
 use Rattle.pc_ast.specs.declared.statements.Stmt.TheOpen.{Stmt-F, Skip, Assign, Call, Block, If, While, Eot, Par, Abort}
 use Rattle.pc_typed.specs.declared.typed.Function.{Function}
 use Rattle.pc_typed.specs.Typing.{Typing}
-use Rattle.pc_weights.specs.Weights as words
+use Rattle.pc_rules.specs.Known.{each_given}
+use Rattle.pc_rules.specs.Weights as words
 use Rattle.pc_meaning.specs.declared.places.Room.{Room}
 use Rattle.pc_meaning.specs.Tree.{Expression, Statement}
 use Rattle.pc_meaning.specs.Programs.{rooms_of, operands_from, expression_step, expression_of, target_of, optional, locals_of, loop_from, Numbering, numbering_of, statements_from, statement_step, statement_of, statements_of, routine_of, program_of}
@@ -84,19 +85,19 @@ module _ (rooms : List Room) where
         ap (λ k. k + weights (statements_from (map (statement_of rooms n) (map (λ s. s.0) all)))) a ∙ ap (λ k. words.statement_weight s.0 + k) b
         ∙ sym (sum-cons (words.statement_weight s.0) (map words.statement_weight (map (λ s. s.0) all)))
 
-    loop_weighs : (most : Option ℕ) (test : Expression) (body : Statement) → weight (loop_from most test body) ≡ words.loop_weight most (value_weight test) (weight body)
+    loop_weighs : (most : Option ℕ) (test : Expression) (body : Statement) → weight (loop_from most test body) ≡ words.loop_words None most (value_weight test) (weight body)
     loop_weighs None test body = refl
     loop_weighs (Some most) test body = refl
 
-    level_weighs : (x : Stmt-F ℕ Weighed) → weight (statement_step rooms n (map-Stmt ℕ (Stmt ℕ) Statement (statement_of rooms n) (bare x))) ≡ words.weight_step (map-Stmt ℕ (Stmt ℕ) ℕ words.statement_weight (bare x))
+    level_weighs : (x : Stmt-F ℕ Weighed) → weight (statement_step rooms n (map-Stmt ℕ (Stmt ℕ) Statement (statement_of rooms n) (bare x))) ≡ words.words_step None (map-Stmt ℕ (Stmt ℕ) ℕ words.statement_weight (bare x))
     level_weighs Skip = refl
     level_weighs (Assign goal e) = let a = same_goal goal in let b = same_value e in omega (arith, a, b)
-    level_weighs (Call goal k es) = same_call goal es
+    level_weighs (Call goal k es) = let a = same_call goal es in omega (arith, a)
     level_weighs (Block all) = all_weigh all
     level_weighs (If test first None) = let a = same_value test in let b = first.1 in omega (arith, a, b)
     level_weighs (If test first (Some second)) = let a = same_value test in let b = first.1 in let c = second.1 in omega (arith, a, b, c)
     level_weighs (While span test most body) =
-        loop_weighs most (expression_of rooms test) (statement_of rooms n body.0) ∙ ap (λ k. words.loop_weight most k (weight (statement_of rooms n body.0))) (same_value test) ∙ ap (words.loop_weight most (words.expression_weight test)) body.1
+        loop_weighs most (expression_of rooms test) (statement_of rooms n body.0) ∙ ap (λ k. words.loop_words None most k (weight (statement_of rooms n body.0))) (same_value test) ∙ ap (words.loop_words None most (words.expression_weight test)) body.1
     level_weighs (Eot span) = refl
     level_weighs (Par span threads) = refl
     level_weighs (Abort span weak body test) = let a = same_value test in let b = body.1 in omega (arith, a, b)
@@ -105,7 +106,7 @@ module _ (rooms : List Room) where
     same_weight = ind-Stmt ℕ SameWeight (λ x y is.
         subst (λ z. SameWeight (roll-Stmt ℕ z)) is
         (let below = bare y in
-        ap weight (fold-roll-Stmt ℕ Statement (statement_step rooms n) below) ∙ level_weighs y ∙ sym (fold-roll-Stmt ℕ ℕ words.weight_step below)))
+        ap weight (fold-roll-Stmt ℕ Statement (statement_step rooms n) below) ∙ level_weighs y ∙ sym (fold-roll-Stmt ℕ ℕ (words.words_step None) below)))
 
     body_weighs : (all : List (Stmt ℕ)) → weights (statements_of rooms n all) ≡ sum_by words.statement_weight all
     body_weighs [] = refl
@@ -152,11 +153,11 @@ module _ (rooms : List Room) where
           ap (λ k. k + singles known (statements_from (map (statement_of rooms n) (map (λ s. s.0) all)))) s.1 ∙ ap (λ k. words.statement_passage known s.0 + k) (all_pass all)
           ∙ sym (sum-cons (words.statement_passage known s.0) (map (words.statement_passage known) (map (λ s. s.0) all)))
 
-      loop_passes : (most : Option ℕ) (test : Expression) (body : Statement) → single known (loop_from most test body) ≡ words.loop_passage most (value_weight test) (single known body)
+      loop_passes : (most : Option ℕ) (test : Expression) (body : Statement) → single known (loop_from most test body) ≡ words.loop_words (Some known) most (value_weight test) (single known body)
       loop_passes None test body = refl
       loop_passes (Some most) test body = refl
 
-      level_passes : (x : Stmt-F ℕ Passed) → single known (statement_step rooms n (map-Stmt ℕ (Stmt ℕ) Statement (statement_of rooms n) (plain x))) ≡ words.passage_step known (map-Stmt ℕ (Stmt ℕ) ℕ (words.statement_passage known) (plain x))
+      level_passes : (x : Stmt-F ℕ Passed) → single known (statement_step rooms n (map-Stmt ℕ (Stmt ℕ) Statement (statement_of rooms n) (plain x))) ≡ words.words_step (Some known) (map-Stmt ℕ (Stmt ℕ) ℕ (words.statement_passage known) (plain x))
       level_passes Skip = refl
       level_passes (Assign goal e) = let a = same_goal goal in let b = same_value e in omega (arith, a, b)
       level_passes (Call goal k es) = ap (λ j. j + count_at known k) (same_call goal es)
@@ -164,8 +165,8 @@ module _ (rooms : List Room) where
       level_passes (If test first None) = let a = same_value test in let b = first.1 in omega (arith, a, b)
       level_passes (If test first (Some second)) = let a = same_value test in let b = first.1 in let c = second.1 in omega (arith, a, b, c)
       level_passes (While span test most body) =
-          loop_passes most (expression_of rooms test) (statement_of rooms n body.0) ∙ ap (λ k. words.loop_passage most k (single known (statement_of rooms n body.0))) (same_value test)
-          ∙ ap (words.loop_passage most (words.expression_weight test)) body.1
+          loop_passes most (expression_of rooms test) (statement_of rooms n body.0) ∙ ap (λ k. words.loop_words (Some known) most k (single known (statement_of rooms n body.0))) (same_value test)
+          ∙ ap (words.loop_words (Some known) most (words.expression_weight test)) body.1
       level_passes (Eot span) = refl
       level_passes (Par span threads) = refl
       level_passes (Abort span weak body test) = let a = same_value test in let b = body.1 in omega (arith, a, b)
@@ -174,7 +175,7 @@ module _ (rooms : List Room) where
       same_passage = ind-Stmt ℕ SamePassage (λ x y is.
           subst (λ z. SamePassage (roll-Stmt ℕ z)) is
           (let below = plain y in
-          ap (single known) (fold-roll-Stmt ℕ Statement (statement_step rooms n) below) ∙ level_passes y ∙ sym (fold-roll-Stmt ℕ ℕ (words.passage_step known) below)))
+          ap (single known) (fold-roll-Stmt ℕ Statement (statement_step rooms n) below) ∙ level_passes y ∙ sym (fold-roll-Stmt ℕ ℕ (words.words_step (Some known)) below)))
 
       body_passes : (all : List (Stmt ℕ)) → singles known (statements_of rooms n all) ≡ sum_by (words.statement_passage known) all
       body_passes [] = refl
@@ -187,7 +188,7 @@ module _ (rooms : List Room) where
           let c = body_passes f.body in
           omega (arith, a, b, c)
 
-    pub routines_pass : (known : List ℕ) (fs : List Function) → singles_from known (map (routine_of rooms n) fs) ≡ words.passages_from known fs
+    pub routines_pass : (known : List ℕ) (fs : List Function) → singles_from known (map (routine_of rooms n) fs) ≡ each_given words.function_passage known fs
     routines_pass known [] = refl
     routines_pass known (f ∷ fs) =
         ap (λ k. singles_from (known ++ k ∷ []) (map (routine_of rooms n) fs)) (routine_passes known f) ∙ routines_pass (known ++ words.function_passage known f ∷ []) fs

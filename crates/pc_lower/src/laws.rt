@@ -4,7 +4,7 @@ ghost use Rattle.pc_typed.specs.Keeping.{IsTyped};
 ghost use Rattle.pc_rules.specs.Judging.{IsWithin};
 ghost use Rattle.pc_meaning.specs.Promises.{RoutinesLast, finishing_of};
 ghost use Rattle.pc_lower.specs.Loops.{RoutinesLoopsKept};
-ghost use Rattle.pc_weights.specs.Weights.{passages, program_weight};
+ghost use Rattle.pc_rules.specs.Weights.{passages, program_weight};
 ghost use Rattle.pc_meaning.specs.Tree.{Expression, Routine, Program};
 ghost use Rattle.pc_meaning.specs.Values.{value};
 ghost use Rattle.pc_meaning.specs.Runs.{meaning_of};

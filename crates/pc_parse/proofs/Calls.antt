@@ -97,9 +97,6 @@ call_after {source = source} {goal = goal} (call {w = w} {all = all} a' t' z is_
     let tail : (w ++ z ∷ []) ++ rest ≡ i = cc in
     record { last = z; closes = closes; w = w; all = all; arguments = d; tree = ap (λ x. Call goal (word_at source x) all) here; whole = sym tail ∙ append_assoc w (z ∷ []) rest }
 
-call_whole : (a t z : Token) (w r : List Token) → (a ∷ t ∷ (w ++ z ∷ [])) ++ r ≡ a ∷ t ∷ (w ++ z ∷ r)
-call_whole a t z w r = ap (λ x. a ∷ t ∷ x) (append_assoc w (z ∷ []) r)
-
 opened : {source : List ℕ} {w : List Token} {all : List (Expr Word)} → SpellsArguments source w all → (z : Token) (r : List Token) → first ((w ++ z ∷ []) ++ r) ≡ Some OpenParenthesis
 opened {w = w} d z r = ap first (append_assoc w (z ∷ []) r) ∙ arguments_first d (z ∷ r)
 

@@ -1,7 +1,7 @@
 -- What statements begin with, and where they end.
 use Rattle.std.proofs.Common.{◌≡◌, ℕ, Bool, List, [], ◌∷◌, ◌++◌, Option, Some, length, refl, sym, ap, subst, ◌∙◌, append_assoc, arith}
 use Rattle.pc_lex.specs.declared.tokens.Sort.{Sort}
-use Rattle.pc_lex.specs.declared.tokens.Sort.TheVariants.{IfWord, ElseWord, WhileWord, ReturnWord, AbortWord, WeakWord, WhenWord, OpenBrace, CloseBrace}
+use Rattle.pc_lex.specs.declared.tokens.Sort.TheVariants.{IfWord, ElseWord, WhileWord, ReturnWord, AbortWord, WeakWord, OpenBrace, CloseBrace}
 use Rattle.pc_lex.specs.declared.tokens.Token.{Token}
 use Rattle.pc_ast.specs.declared.expressions.Word.{Word}
 use Rattle.pc_ast.specs.declared.statements.Stmt.{Stmt}
@@ -38,10 +38,6 @@ weak_begins = refl
 pub else_begins : beginning_of ElseWord ≡ NothingBeginning
 unfolding beginning_of
 else_begins = refl
-
-pub when_begins : beginning_of WhenWord ≡ NothingBeginning
-unfolding beginning_of
-when_begins = refl
 
 brace_ends : beginning_of CloseBrace ≡ NothingBeginning
 unfolding beginning_of

@@ -4,12 +4,9 @@ use Rattle.pt_base.specs.declared.operators.UnOp.{UnOp}
 use Rattle.pt_base.specs.declared.operators.BinOp.{BinOp}
 use Rattle.pc_ast.specs.declared.expressions.Word.{Word}
 use Rattle.pc_ast.specs.declared.expressions.Expr.{Expr, fold-roll-Expr}
-use Rattle.pc_ast.specs.declared.expressions.Expr.TheVariants.{Number, Var, Elem, Unary, Chain, rolls-Number, rolls-Var, rolls-Elem, rolls-Unary, rolls-Chain}
-use Rattle.pc_ast.specs.declared.expressions.Expr.TheOpen.{Number as OpenNumber, Var as OpenVar, Elem as OpenElem, Unary as OpenUnary, Chain as OpenChain}
+use Rattle.pc_ast.specs.declared.expressions.Expr.TheVariants.{Var, Elem, Unary, Chain, rolls-Var, rolls-Elem, rolls-Unary, rolls-Chain}
+use Rattle.pc_ast.specs.declared.expressions.Expr.TheOpen.{Var as OpenVar, Elem as OpenElem, Unary as OpenUnary, Chain as OpenChain}
 use Rattle.pc_print.specs.Tokens.{bare_of, bare}
-
-pub bare-Number : (n : ℕ) → bare (Number n) ≡ Number n
-bare-Number n = ap bare (sym (rolls-Number n)) ∙ fold-roll-Expr Word (Expr (List ℕ)) bare_of (OpenNumber n)
 
 pub bare-Var : (w : Word) → bare (Var w) ≡ Var w.text
 bare-Var w = ap bare (sym (rolls-Var w)) ∙ fold-roll-Expr Word (Expr (List ℕ)) bare_of (OpenVar w)

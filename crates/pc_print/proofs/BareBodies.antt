@@ -5,13 +5,10 @@ use Rattle.pc_ast.specs.declared.expressions.Word.{Word}
 use Rattle.pc_ast.specs.declared.expressions.Expr.{Expr}
 use Rattle.pc_ast.specs.declared.expressions.Goal.{Goal}
 use Rattle.pc_ast.specs.declared.statements.Stmt.{Stmt, fold-roll-Stmt}
-use Rattle.pc_ast.specs.declared.statements.Stmt.TheVariants.{Skip, Assign, Call, Block, If, While, Eot, Par, Abort, rolls-Skip, rolls-Assign, rolls-Call, rolls-Block, rolls-If, rolls-While, rolls-Eot, rolls-Par, rolls-Abort}
-use Rattle.pc_ast.specs.declared.statements.Stmt.TheOpen.{Skip as OpenSkip, Assign as OpenAssign, Call as OpenCall, Block as OpenBlock, If as OpenIf, While as OpenWhile, Eot as OpenEot, Par as OpenPar, Abort as OpenAbort}
+use Rattle.pc_ast.specs.declared.statements.Stmt.TheVariants.{Assign, Call, Block, If, While, Eot, Par, Abort, rolls-Assign, rolls-Call, rolls-Block, rolls-If, rolls-While, rolls-Eot, rolls-Par, rolls-Abort}
+use Rattle.pc_ast.specs.declared.statements.Stmt.TheOpen.{Assign as OpenAssign, Call as OpenCall, Block as OpenBlock, If as OpenIf, While as OpenWhile, Eot as OpenEot, Par as OpenPar, Abort as OpenAbort}
 use Rattle.pc_print.specs.Tokens.{nowhere, bare}
 use Rattle.pc_print.specs.Same.{bare_goal, bare_statement_of, bare_statement, bare_statements}
-
-pub bare-Skip : bare_statement Skip ≡ Skip
-bare-Skip = ap bare_statement (sym rolls-Skip) ∙ fold-roll-Stmt Word (Stmt (List ℕ)) bare_statement_of OpenSkip
 
 pub bare-Assign : (goal : Goal Word) (value : Expr Word) → bare_statement (Assign goal value) ≡ Assign (bare_goal goal) (bare value)
 bare-Assign goal value = ap bare_statement (sym (rolls-Assign goal value)) ∙ fold-roll-Stmt Word (Stmt (List ℕ)) bare_statement_of (OpenAssign goal value)

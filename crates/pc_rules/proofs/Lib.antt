@@ -1,3 +1,8 @@
+pub mod Each
+pub mod Chains
+pub mod Passages
+pub mod OverThreads
+pub mod Tall
 pub mod Walks
-pub mod HeightSteps
+pub mod Counts
 pub mod Verdicts

@@ -1,7 +1,7 @@
 -- What is noted of a program is just what it breaks.
-use Rattle.std.proofs.Common.{◌≡◌, ℕ, zero, suc, ◌+◌, ◌<◌, ◌≤◌, Bool, true, false, not, ◌&&◌, fold, cond, List, [], ◌∷◌, ◌++◌, Option, Some, None, ⊎_elim, refl, sym, ap, subst, ◌∙◌, arith}
-use Rattle.std.specs.Prelude.{Contains, flat_map, slice_get, nat_le, nat_lt, count_by, sum_by, if◌then◌else◌}
-use Rattle.std.proofs.lemmas.List.Sums.{sum_by-cons, fold-append}
+use Rattle.std.proofs.Common.{◌≡◌, ℕ, zero, suc, ◌<◌, ◌≤◌, Bool, true, false, not, ◌&&◌, fold, List, [], ◌∷◌, ◌++◌, Option, Some, None, ⊎_elim, refl, sym, ap, subst, ◌∙◌, arith}
+use Rattle.std.specs.Prelude.{Contains, flat_map, slice_get, nat_le, nat_lt, count_by, sum_by}
+use Rattle.std.proofs.lemmas.List.Sums.{fold-append}
 use Rattle.std.proofs.lemmas.Bool.{leb-true, ltb-true}
 use Rattle.pt_base.specs.declared.rules.Rule.{Rule}
 use Rattle.pt_base.specs.declared.rules.Rule.TheVariants.{E1, E2, Z2, Z3, Z4, Z5, Z6, Z7, Z8, Z9}
@@ -11,35 +11,35 @@ use Rattle.pc_typed.specs.Uses.{holds_pause}
 use Rattle.pt_base.specs.First.{end_of}
 use Rattle.pc_typed.specs.Finishing.{finishes, finishing}
 use Rattle.pc_typed.specs.Typing.{Typing}
-use Rattle.pc_weights.specs.Weights.{program_weight, program_single}
-use Rattle.pc_rules.specs.Marks.{Mark, Loop, Aborted, program_marks, heights}
-use Rattle.pc_rules.specs.Judging.{count, is_input, is_output, BreaksRule, may_finish, pauses, BreaksLimit, threads, words, aborts, loops, height, weight, single, inputs, outputs, IsWithin, IsVerdict, rule_broken, limit_broken}
+use Rattle.pc_rules.specs.Weights.{program_weight, program_passage}
+use Rattle.pc_rules.specs.Nests.{Nest, Loop, Aborted, program_nests, heights}
+use Rattle.pc_rules.specs.Judging.{is_input, is_output, BreaksLoops, may_finish, pauses, BreaksLimits, threads, words, aborts, loops, height, weight, passage, inputs, outputs, IsWithin, IsFirstBroken, rule_broken, limit_broken}
 use Rattle.pt_base.specs.First.{Fault, first_of, fault_if}
-use Rattle.pc_rules.specs.Faults.{rule_faults_at, nesting_faults_at, tall_faults, is_thread, whole_faults, rule_faults, limit_faults, note_mark}
+use Rattle.pc_rules.specs.Faults.{rule_faults_at, nesting_faults_at, tall_faults, is_thread, whole_faults, rule_faults, limit_faults, note_nest}
 use Rattle.pc_rules.specs.declared.noting.Noted.{Noted}
 use Rattle.pt_base.proofs.Elements.{in_none, in_left, in_right, in_either, in_flat, flat_in}
 use Rattle.pt_base.proofs.Least.{fault_in, in_fault, Listed, first_of_broken, none_broken}
 
 -- ---- the rules on loops
 
-rule_listed : (t : Typing) (rule : Rule) (span : Span) → BreaksRule t rule span → Listed (rule_faults t) rule span
-rule_listed t rule place (may_finish span body n marked finishes_is) =
-    flat_in (rule_faults_at (finishing t.functions)) (program_marks t) (Loop span None body n) (E1, span) marked (fault_in (finishes (finishing t.functions) body) (E1, span) finishes_is)
-rule_listed t rule place (pauses span most body n marked pauses_is) =
-    flat_in (rule_faults_at (finishing t.functions)) (program_marks t) (Loop span (Some most) body n) (E2, span) marked (fault_in (holds_pause body) (E2, span) pauses_is)
+rule_listed : (t : Typing) (rule : Rule) (span : Span) → BreaksLoops t rule span → Listed (rule_faults t) rule span
+rule_listed t rule place (may_finish span body n nested finishes_is) =
+    flat_in (rule_faults_at (finishing t.functions)) (program_nests t) (Loop span None body n) (E1, span) nested (fault_in (finishes (finishing t.functions) body) (E1, span) finishes_is)
+rule_listed t rule place (pauses span most body n nested pauses_is) =
+    flat_in (rule_faults_at (finishing t.functions)) (program_nests t) (Loop span (Some most) body n) (E2, span) nested (fault_in (holds_pause body) (E2, span) pauses_is)
 
-rule_at : (t : Typing) (m : Mark) (f : Fault) → Contains (program_marks t) m → Contains (rule_faults_at (finishing t.functions) m) f → BreaksRule t f.0 f.1
-rule_at t (Loop span None body n) f marked found =
+rule_at : (t : Typing) (m : Nest) (f : Fault) → Contains (program_nests t) m → Contains (rule_faults_at (finishing t.functions) m) f → BreaksLoops t f.0 f.1
+rule_at t (Loop span None body n) f nested found =
     let is = in_fault (finishes (finishing t.functions) body) (E1, span) f found in
-    subst (λ (g : Fault). BreaksRule t g.0 g.1) is.1 (may_finish span body n marked is.0)
-rule_at t (Loop span (Some most) body n) f marked found =
+    subst (λ (g : Fault). BreaksLoops t g.0 g.1) is.1 (may_finish span body n nested is.0)
+rule_at t (Loop span (Some most) body n) f nested found =
     let is = in_fault (holds_pause body) (E2, span) f found in
-    subst (λ (g : Fault). BreaksRule t g.0 g.1) is.1 (pauses span most body n marked is.0)
-rule_at t (Aborted span n) f marked found = absurd (in_none f found)
+    subst (λ (g : Fault). BreaksLoops t g.0 g.1) is.1 (pauses span most body n nested is.0)
+rule_at t (Aborted span n) f nested found = absurd (in_none f found)
 
-rule_is_broken : (t : Typing) (rule : Rule) (span : Span) → Listed (rule_faults t) rule span → BreaksRule t rule span
+rule_is_broken : (t : Typing) (rule : Rule) (span : Span) → Listed (rule_faults t) rule span → BreaksLoops t rule span
 rule_is_broken t rule span listed =
-    let w = in_flat (rule_faults_at (finishing t.functions)) (program_marks t) (rule, span) listed in
+    let w = in_flat (rule_faults_at (finishing t.functions)) (program_nests t) (rule, span) listed in
     rule_at t w.of (rule, span) w.listed w.found
 
 -- ---- nesting
@@ -47,19 +47,19 @@ rule_is_broken t rule span listed =
 le_true : (n : ℕ) → 8 ≤ n → nat_le 8 n ≡ true
 le_true n h = grind arith
 
-nesting_at : (t : Typing) (m : Mark) (f : Fault) → Contains (program_marks t) m → Contains (nesting_faults_at m) f → BreaksLimit t f.0 f.1
-nesting_at t (Loop span None body n) f marked found = absurd (in_none f found)
-nesting_at t (Loop span (Some most) body n) f marked found =
+nesting_at : (t : Typing) (m : Nest) (f : Fault) → Contains (program_nests t) m → Contains (nesting_faults_at m) f → BreaksLimits t f.0 f.1
+nesting_at t (Loop span None body n) f nested found = absurd (in_none f found)
+nesting_at t (Loop span (Some most) body n) f nested found =
     let is = in_fault (nat_le 8 n) (Z5, span) f found in
-    subst (λ (g : Fault). BreaksLimit t g.0 g.1) is.1 (loops span most body n marked (leb-true 8 n is.0))
-nesting_at t (Aborted span n) f marked found =
+    subst (λ (g : Fault). BreaksLimits t g.0 g.1) is.1 (loops span most body n nested (leb-true 8 n is.0))
+nesting_at t (Aborted span n) f nested found =
     let is = in_fault (nat_le 8 n) (Z4, span) f found in
-    subst (λ (g : Fault). BreaksLimit t g.0 g.1) is.1 (aborts span n marked (leb-true 8 n is.0))
+    subst (λ (g : Fault). BreaksLimits t g.0 g.1) is.1 (aborts span n nested (leb-true 8 n is.0))
 
-nesting_listed : (t : Typing) (m : Mark) (f : Fault) → Contains (program_marks t) m → Contains (nesting_faults_at m) f → Contains (limit_faults t) f
-nesting_listed t m f marked found =
-    in_left (flat_map nesting_faults_at (program_marks t)) (tall_faults t.functions (heights t.functions) ++ whole_faults t) f
-    (flat_in nesting_faults_at (program_marks t) m f marked found)
+nesting_listed : (t : Typing) (m : Nest) (f : Fault) → Contains (program_nests t) m → Contains (nesting_faults_at m) f → Contains (limit_faults t) f
+nesting_listed t m f nested found =
+    in_left (flat_map nesting_faults_at (program_nests t)) (tall_faults t.functions (heights t.functions) ++ whole_faults t) f
+    (flat_in nesting_faults_at (program_nests t) m f nested found)
 
 -- ---- heights
 
@@ -129,14 +129,6 @@ is_tall (g ∷ functions) (n ∷ heights) (suc i) h f is height_is calm high =
 
 -- ---- the whole program
 
-count_one : (b : Bool) (n : ℕ) → cond b 1 0 + n ≡ (if b then 1 else 0) + n
-count_one true n = refl
-count_one false n = refl
-
-count_is : {A : Type 0} (test : A → Bool) (xs : List A) → count_by test xs ≡ count test xs
-count_is test [] = refl
-count_is test (x ∷ xs) = sum_by-cons (λ y. cond (test y) 1 0) x xs ∙ ap (λ n. cond (test x) 1 0 + n) (count_is test xs) ∙ count_one (test x) (count test xs)
-
 lt_true : (a b : ℕ) → a < b → nat_lt a b ≡ true
 lt_true a b h = grind arith
 
@@ -153,8 +145,8 @@ test_words t = nat_lt 15000 (sum_by (λ cell. cell.size) t.cells)
 abbrev test_weight : Typing → Bool
 test_weight t = nat_lt 60000 (program_weight t)
 
-abbrev test_single : Typing → Bool
-test_single t = nat_lt 2000000 (program_single t)
+abbrev test_passage : Typing → Bool
+test_passage t = nat_lt 2000000 (program_passage t)
 
 abbrev test_inputs : Typing → Bool
 test_inputs t = nat_lt 64 (count_by is_input t.cells)
@@ -169,17 +161,17 @@ end_fault test rule t = fault_if (test t) (at_end t rule)
 abbrev from_inputs : Typing → List Fault
 from_inputs t = end_fault test_inputs Z9 t ++ end_fault test_outputs Z9 t
 
-abbrev from_single : Typing → List Fault
-from_single t = end_fault test_single Z8 t ++ from_inputs t
+abbrev from_passage : Typing → List Fault
+from_passage t = end_fault test_passage Z8 t ++ from_inputs t
 
 abbrev from_weight : Typing → List Fault
-from_weight t = end_fault test_weight Z7 t ++ from_single t
+from_weight t = end_fault test_weight Z7 t ++ from_passage t
 
 abbrev from_words : Typing → List Fault
 from_words t = end_fault test_words Z3 t ++ from_weight t
 
 abbrev Broken : Typing → Fault → Type 0
-Broken t f = BreaksLimit t f.0 f.1
+Broken t f = BreaksLimits t f.0 f.1
 
 of_end : (t : Typing) (f : Fault) (test : Typing → Bool) (rule : Rule) → (test t ≡ true → Broken t (at_end t rule)) → Contains (end_fault test rule t) f → Broken t f
 of_end t f test rule broken found =
@@ -189,25 +181,25 @@ of_end t f test rule broken found =
 whole_at : (t : Typing) (f : Fault) → Contains (whole_faults t) f → Broken t f
 whole_at t f found =
     ⊎_elim
-    (λ one. of_end t f test_threads Z2 (λ e. threads (subst (λ n. 64 < n) (count_is is_thread t.functions) (ltb-true 64 (count_by is_thread t.functions) e))) one)
+    (λ one. of_end t f test_threads Z2 (λ e. threads (ltb-true 64 (count_by is_thread t.functions) e)) one)
     (λ more. ⊎_elim
     (λ one. of_end t f test_words Z3 (λ e. words (ltb-true 15000 (sum_by (λ cell. cell.size) t.cells) e)) one)
     (λ more. ⊎_elim
     (λ one. of_end t f test_weight Z7 (λ e. weight (ltb-true 60000 (program_weight t) e)) one)
     (λ more. ⊎_elim
-    (λ one. of_end t f test_single Z8 (λ e. single (ltb-true 2000000 (program_single t) e)) one)
+    (λ one. of_end t f test_passage Z8 (λ e. passage (ltb-true 2000000 (program_passage t) e)) one)
     (λ more. ⊎_elim
-    (λ one. of_end t f test_inputs Z9 (λ e. inputs (subst (λ n. 64 < n) (count_is is_input t.cells) (ltb-true 64 (count_by is_input t.cells) e))) one)
-    (λ one. of_end t f test_outputs Z9 (λ e. outputs (subst (λ n. 64 < n) (count_is is_output t.cells) (ltb-true 64 (count_by is_output t.cells) e))) one)
+    (λ one. of_end t f test_inputs Z9 (λ e. inputs (ltb-true 64 (count_by is_input t.cells) e)) one)
+    (λ one. of_end t f test_outputs Z9 (λ e. outputs (ltb-true 64 (count_by is_output t.cells) e)) one)
     (in_either (end_fault test_inputs Z9 t) (end_fault test_outputs Z9 t) f more))
-    (in_either (end_fault test_single Z8 t) (from_inputs t) f more))
-    (in_either (end_fault test_weight Z7 t) (from_single t) f more))
+    (in_either (end_fault test_passage Z8 t) (from_inputs t) f more))
+    (in_either (end_fault test_weight Z7 t) (from_passage t) f more))
     (in_either (end_fault test_words Z3 t) (from_weight t) f more))
     (in_either (end_fault test_threads Z2 t) (from_words t) f found)
 
 in_whole : (t : Typing) (f : Fault) → Contains (whole_faults t) f → Contains (limit_faults t) f
 in_whole t f h =
-    in_right (flat_map nesting_faults_at (program_marks t)) (tall_faults t.functions (heights t.functions) ++ whole_faults t) f
+    in_right (flat_map nesting_faults_at (program_nests t)) (tall_faults t.functions (heights t.functions) ++ whole_faults t) f
     (in_right (tall_faults t.functions (heights t.functions)) (whole_faults t) f h)
 
 in_words : (t : Typing) (f : Fault) → Contains (from_words t) f → Contains (limit_faults t) f
@@ -216,78 +208,78 @@ in_words t f h = in_whole t f (in_right (end_fault test_threads Z2 t) (from_word
 in_weight : (t : Typing) (f : Fault) → Contains (from_weight t) f → Contains (limit_faults t) f
 in_weight t f h = in_words t f (in_right (end_fault test_words Z3 t) (from_weight t) f h)
 
-in_single : (t : Typing) (f : Fault) → Contains (from_single t) f → Contains (limit_faults t) f
-in_single t f h = in_weight t f (in_right (end_fault test_weight Z7 t) (from_single t) f h)
+in_passage : (t : Typing) (f : Fault) → Contains (from_passage t) f → Contains (limit_faults t) f
+in_passage t f h = in_weight t f (in_right (end_fault test_weight Z7 t) (from_passage t) f h)
 
 in_inputs : (t : Typing) (f : Fault) → Contains (from_inputs t) f → Contains (limit_faults t) f
-in_inputs t f h = in_single t f (in_right (end_fault test_single Z8 t) (from_inputs t) f h)
+in_inputs t f h = in_passage t f (in_right (end_fault test_passage Z8 t) (from_inputs t) f h)
 
 -- ---- the limits
 
-limit_listed : (t : Typing) (rule : Rule) (span : Span) → BreaksLimit t rule span → Listed (limit_faults t) rule span
+limit_listed : (t : Typing) (rule : Rule) (span : Span) → BreaksLimits t rule span → Listed (limit_faults t) rule span
 limit_listed t rule place (threads h) =
-    let e : test_threads t ≡ true = lt_true 64 (count_by is_thread t.functions) (subst (λ n. 64 < n) (sym (count_is is_thread t.functions)) h) in
+    let e : test_threads t ≡ true = lt_true 64 (count_by is_thread t.functions) h in
     in_whole t (at_end t Z2) (in_left (end_fault test_threads Z2 t) (from_words t) (at_end t Z2) (fault_in (test_threads t) (at_end t Z2) e))
 limit_listed t rule place (words h) =
     let e : test_words t ≡ true = lt_true 15000 (sum_by (λ cell. cell.size) t.cells) h in
     in_words t (at_end t Z3) (in_left (end_fault test_words Z3 t) (from_weight t) (at_end t Z3) (fault_in (test_words t) (at_end t Z3) e))
-limit_listed t rule place (aborts span n marked h) =
-    nesting_listed t (Aborted span n) (Z4, span) marked (fault_in (nat_le 8 n) (Z4, span) (le_true n h))
-limit_listed t rule place (loops span most body n marked h) =
-    nesting_listed t (Loop span (Some most) body n) (Z5, span) marked (fault_in (nat_le 8 n) (Z5, span) (le_true n h))
+limit_listed t rule place (aborts span n nested h) =
+    nesting_listed t (Aborted span n) (Z4, span) nested (fault_in (nat_le 8 n) (Z4, span) (le_true n h))
+limit_listed t rule place (loops span most body n nested h) =
+    nesting_listed t (Loop span (Some most) body n) (Z5, span) nested (fault_in (nat_le 8 n) (Z5, span) (le_true n h))
 limit_listed t rule place (height i h f is height_is calm high) =
-    in_right (flat_map nesting_faults_at (program_marks t)) (tall_faults t.functions (heights t.functions) ++ whole_faults t) (Z6, f.name.span)
+    in_right (flat_map nesting_faults_at (program_nests t)) (tall_faults t.functions (heights t.functions) ++ whole_faults t) (Z6, f.name.span)
     (in_left (tall_faults t.functions (heights t.functions)) (whole_faults t) (Z6, f.name.span) (is_tall t.functions (heights t.functions) i h f is height_is calm high))
 limit_listed t rule place (weight h) =
     let e : test_weight t ≡ true = lt_true 60000 (program_weight t) h in
-    in_weight t (at_end t Z7) (in_left (end_fault test_weight Z7 t) (from_single t) (at_end t Z7) (fault_in (test_weight t) (at_end t Z7) e))
-limit_listed t rule place (single h) =
-    let e : test_single t ≡ true = lt_true 2000000 (program_single t) h in
-    in_single t (at_end t Z8) (in_left (end_fault test_single Z8 t) (from_inputs t) (at_end t Z8) (fault_in (test_single t) (at_end t Z8) e))
+    in_weight t (at_end t Z7) (in_left (end_fault test_weight Z7 t) (from_passage t) (at_end t Z7) (fault_in (test_weight t) (at_end t Z7) e))
+limit_listed t rule place (passage h) =
+    let e : test_passage t ≡ true = lt_true 2000000 (program_passage t) h in
+    in_passage t (at_end t Z8) (in_left (end_fault test_passage Z8 t) (from_inputs t) (at_end t Z8) (fault_in (test_passage t) (at_end t Z8) e))
 limit_listed t rule place (inputs h) =
-    let e : test_inputs t ≡ true = lt_true 64 (count_by is_input t.cells) (subst (λ n. 64 < n) (sym (count_is is_input t.cells)) h) in
+    let e : test_inputs t ≡ true = lt_true 64 (count_by is_input t.cells) h in
     in_inputs t (at_end t Z9) (in_left (end_fault test_inputs Z9 t) (end_fault test_outputs Z9 t) (at_end t Z9) (fault_in (test_inputs t) (at_end t Z9) e))
 limit_listed t rule place (outputs h) =
-    let e : test_outputs t ≡ true = lt_true 64 (count_by is_output t.cells) (subst (λ n. 64 < n) (sym (count_is is_output t.cells)) h) in
+    let e : test_outputs t ≡ true = lt_true 64 (count_by is_output t.cells) h in
     in_inputs t (at_end t Z9) (in_right (end_fault test_inputs Z9 t) (end_fault test_outputs Z9 t) (at_end t Z9) (fault_in (test_outputs t) (at_end t Z9) e))
 
 tall_broken : (t : Typing) (f : Fault) → Tall t.functions (heights t.functions) f → Broken t f
 tall_broken t f w = subst (λ (g : Fault). Broken t g) w.same (height w.i w.h w.f w.is w.height_is w.no_thread w.high)
 
-limit_is_broken : (t : Typing) (rule : Rule) (span : Span) → Listed (limit_faults t) rule span → BreaksLimit t rule span
+limit_is_broken : (t : Typing) (rule : Rule) (span : Span) → Listed (limit_faults t) rule span → BreaksLimits t rule span
 limit_is_broken t rule span listed =
     ⊎_elim
-    (λ nested. let w = in_flat nesting_faults_at (program_marks t) (rule, span) nested in nesting_at t w.of (rule, span) w.listed w.found)
+    (λ nested. let w = in_flat nesting_faults_at (program_nests t) (rule, span) nested in nesting_at t w.of (rule, span) w.listed w.found)
     (λ more. ⊎_elim
     (λ tall. tall_broken t (rule, span) (tall_is t.functions (heights t.functions) (rule, span) tall))
     (λ whole. whole_at t (rule, span) whole)
     (in_either (tall_faults t.functions (heights t.functions)) (whole_faults t) (rule, span) more))
-    (in_either (flat_map nesting_faults_at (program_marks t)) (tall_faults t.functions (heights t.functions) ++ whole_faults t) (rule, span) listed)
+    (in_either (flat_map nesting_faults_at (program_nests t)) (tall_faults t.functions (heights t.functions) ++ whole_faults t) (rule, span) listed)
 
 -- ---- the verdict
 
-no_rule : (t : Typing) → first_of None (rule_faults t) ≡ None → (rule : Rule) (span : Span) → BreaksRule t rule span → ⊥
-no_rule t none = none_broken (BreaksRule t) (rule_faults t) (rule_listed t) none
+no_rule : (t : Typing) → first_of None (rule_faults t) ≡ None → (rule : Rule) (span : Span) → BreaksLoops t rule span → ⊥
+no_rule t none = none_broken (BreaksLoops t) (rule_faults t) (rule_listed t) none
 
-pub broken_rule : (t : Typing) (rule : Rule) (span : Span) → first_of None (rule_faults t) ≡ Some (rule, span) → IsVerdict t rule span
-broken_rule t rule span found = rule_broken (first_of_broken (BreaksRule t) (rule_faults t) (rule_is_broken t) (rule_listed t) rule span found)
+pub broken_rule : (t : Typing) (rule : Rule) (span : Span) → first_of None (rule_faults t) ≡ Some (rule, span) → IsFirstBroken t rule span
+broken_rule t rule span found = rule_broken (first_of_broken (BreaksLoops t) (rule_faults t) (rule_is_broken t) (rule_listed t) rule span found)
 
-pub broken_limit : (t : Typing) (rule : Rule) (span : Span) → first_of None (rule_faults t) ≡ None → first_of None (limit_faults t) ≡ Some (rule, span) → IsVerdict t rule span
+pub broken_limit : (t : Typing) (rule : Rule) (span : Span) → first_of None (rule_faults t) ≡ None → first_of None (limit_faults t) ≡ Some (rule, span) → IsFirstBroken t rule span
 broken_limit t rule span none found =
-    limit_broken (no_rule t none) (first_of_broken (BreaksLimit t) (limit_faults t) (limit_is_broken t) (limit_listed t) rule span found)
+    limit_broken (no_rule t none) (first_of_broken (BreaksLimits t) (limit_faults t) (limit_is_broken t) (limit_listed t) rule span found)
 
 pub nothing_broken : (t : Typing) → first_of None (rule_faults t) ≡ None → first_of None (limit_faults t) ≡ None → IsWithin t
-nothing_broken t rules limits = record { rules = no_rule t rules; limits = none_broken (BreaksLimit t) (limit_faults t) (limit_listed t) limits }
+nothing_broken t rules limits = record { rules = no_rule t rules; limits = none_broken (BreaksLimits t) (limit_faults t) (limit_listed t) limits }
 
 -- ---- what was noted of all loops and aborts
 
-noted_rules : (known : List Bool) (ms : List Mark) (n : Noted) → (fold (note_mark known) n ms).rules ≡ first_of n.rules (flat_map (rule_faults_at known) ms)
+noted_rules : (known : List Bool) (ms : List Nest) (n : Noted) → (fold (note_nest known) n ms).rules ≡ first_of n.rules (flat_map (rule_faults_at known) ms)
 noted_rules known [] n = refl
-noted_rules known (m ∷ ms) n = noted_rules known ms (note_mark known n m) ∙ sym (fold-append _ n.rules (rule_faults_at known m) (flat_map (rule_faults_at known) ms))
+noted_rules known (m ∷ ms) n = noted_rules known ms (note_nest known n m) ∙ sym (fold-append _ n.rules (rule_faults_at known m) (flat_map (rule_faults_at known) ms))
 
-noted_limits : (known : List Bool) (ms : List Mark) (n : Noted) → (fold (note_mark known) n ms).limits ≡ first_of n.limits (flat_map nesting_faults_at ms)
+noted_limits : (known : List Bool) (ms : List Nest) (n : Noted) → (fold (note_nest known) n ms).limits ≡ first_of n.limits (flat_map nesting_faults_at ms)
 noted_limits known [] n = refl
-noted_limits known (m ∷ ms) n = noted_limits known ms (note_mark known n m) ∙ sym (fold-append _ n.limits (nesting_faults_at m) (flat_map nesting_faults_at ms))
+noted_limits known (m ∷ ms) n = noted_limits known ms (note_nest known n m) ∙ sym (fold-append _ n.limits (nesting_faults_at m) (flat_map nesting_faults_at ms))
 
 abbrev nothing : Noted
 nothing = record { rules = None; limits = None }
@@ -297,11 +289,11 @@ pub record IsNoted (t : Typing) (noted : Noted) : Type 0 where
   pub rules : noted.rules ≡ first_of None (rule_faults t)
   pub limits : (last : Option Fault) → last ≡ first_of noted.limits (tall_faults t.functions (heights t.functions) ++ whole_faults t) → last ≡ first_of None (limit_faults t)
 
-pub is_noted : (t : Typing) (noted : Noted) → noted ≡ fold (note_mark (finishing t.functions)) nothing (program_marks t) → IsNoted t noted
+pub is_noted : (t : Typing) (noted : Noted) → noted ≡ fold (note_nest (finishing t.functions)) nothing (program_nests t) → IsNoted t noted
 is_noted t noted is = record {
-  rules = ap (λ (n : Noted). n.rules) is ∙ noted_rules (finishing t.functions) (program_marks t) nothing;
+  rules = ap (λ (n : Noted). n.rules) is ∙ noted_rules (finishing t.functions) (program_nests t) nothing;
   limits = λ last last_is.
       last_is
-      ∙ ap (λ o. first_of o (tall_faults t.functions (heights t.functions) ++ whole_faults t)) (ap (λ (n : Noted). n.limits) is ∙ noted_limits (finishing t.functions) (program_marks t) nothing)
-      ∙ sym (fold-append _ None (flat_map nesting_faults_at (program_marks t)) (tall_faults t.functions (heights t.functions) ++ whole_faults t));
+      ∙ ap (λ o. first_of o (tall_faults t.functions (heights t.functions) ++ whole_faults t)) (ap (λ (n : Noted). n.limits) is ∙ noted_limits (finishing t.functions) (program_nests t) nothing)
+      ∙ sym (fold-append _ None (flat_map nesting_faults_at (program_nests t)) (tall_faults t.functions (heights t.functions) ++ whole_faults t));
 }

@@ -6,20 +6,20 @@ use Rattle.pc_typed.specs.declared.typed.Function.{Function}
 use Rattle.pc_typed.specs.Uses.{holds_pause}
 use Rattle.pc_typed.specs.Finishing.{finishes, finishing}
 use Rattle.pc_typed.specs.Typing.{Typing}
-use Rattle.pc_weights.specs.Weights.{program_weight, program_single}
-use Rattle.pc_rules.specs.Marks.{Mark, Loop, Aborted, program_marks, heights}
+use Rattle.pc_rules.specs.Weights.{program_weight, program_passage}
+use Rattle.pc_rules.specs.Nests.{Nest, Loop, Aborted, program_nests, heights}
 use Rattle.pt_base.specs.First.{Fault, end_of, fault_if, first_of}
 use Rattle.pc_rules.specs.Judging.{is_input, is_output}
 use Rattle.pc_rules.specs.declared.noting.Noted.{Noted}
 
 -- E1 and E2, given of each function whether it may finish
-abbrev pub rule_faults_at : List Bool → Mark → List Fault
+abbrev pub rule_faults_at : List Bool → Nest → List Fault
 rule_faults_at known (Loop span None body loops) = fault_if (finishes known body) (E1, span)
 rule_faults_at known (Loop span (Some most) body loops) = fault_if (holds_pause body) (E2, span)
 rule_faults_at known (Aborted span aborts) = []
 
 -- Z4 and Z5
-abbrev pub nesting_faults_at : Mark → List Fault
+abbrev pub nesting_faults_at : Nest → List Fault
 nesting_faults_at (Loop span None body loops) = []
 nesting_faults_at (Loop span (Some most) body loops) = fault_if (nat_le MOST_NESTED loops) (Z5, span)
 nesting_faults_at (Aborted span aborts) = fault_if (nat_le MOST_NESTED aborts) (Z4, span)
@@ -38,16 +38,16 @@ abbrev pub whole_faults : Typing → List Fault
 whole_faults t = fault_if (nat_lt MOST_THREADS (count_by is_thread t.functions)) (Z2, end_of t.length)
     ++ (fault_if (nat_lt MOST_CELL_WORDS (sum_by (λ cell. cell.size) t.cells)) (Z3, end_of t.length)
     ++ (fault_if (nat_lt MOST_WEIGHT (program_weight t)) (Z7, end_of t.length)
-    ++ (fault_if (nat_lt MOST_PASSAGE (program_single t)) (Z8, end_of t.length)
+    ++ (fault_if (nat_lt MOST_PASSAGE (program_passage t)) (Z8, end_of t.length)
     ++ (fault_if (nat_lt MOST_PORTS (count_by is_input t.cells)) (Z9, end_of t.length)
     ++ fault_if (nat_lt MOST_PORTS (count_by is_output t.cells)) (Z9, end_of t.length)))))
 
 abbrev pub rule_faults : Typing → List Fault
-rule_faults t = flat_map (rule_faults_at (finishing t.functions)) (program_marks t)
+rule_faults t = flat_map (rule_faults_at (finishing t.functions)) (program_nests t)
 
 abbrev pub limit_faults : Typing → List Fault
-limit_faults t = flat_map nesting_faults_at (program_marks t) ++ (tall_faults t.functions (heights t.functions) ++ whole_faults t)
+limit_faults t = flat_map nesting_faults_at (program_nests t) ++ (tall_faults t.functions (heights t.functions) ++ whole_faults t)
 
 -- what was noted, and one more loop or abort
-abbrev pub note_mark : List Bool → Noted → Mark → Noted
-note_mark known n m = record { rules = first_of n.rules (rule_faults_at known m); limits = first_of n.limits (nesting_faults_at m) }
+abbrev pub note_nest : List Bool → Noted → Nest → Noted
+note_nest known n m = record { rules = first_of n.rules (rule_faults_at known m); limits = first_of n.limits (nesting_faults_at m) }

@@ -1,5 +1,5 @@
 -- The rules on loops and the limits, each as a condition on the whole program, and the verdict: docs/language.md, "Loops and limits".
-use Rattle.std.specs.Prelude.{◌≡◌, ℕ, ◌+◌, ◌<◌, ◌≤◌, Bool, true, false, List, [], ◌∷◌, Some, None, Contains, Result, Ok, Err, sum_by, slice_get, if◌then◌else◌}
+use Rattle.std.specs.Prelude.{◌≡◌, ℕ, ◌<◌, ◌≤◌, Bool, true, false, Some, None, Contains, Result, Ok, Err, count_by, sum_by, slice_get}
 use Rattle.pt_base.specs.First.{IsFirst, end_of}
 use Rattle.pt_base.specs.declared.limits.TheConstants.{MOST_THREADS, MOST_CELL_WORDS, MOST_NESTED, MOST_HEIGHT, MOST_WEIGHT, MOST_PASSAGE, MOST_PORTS}
 use Rattle.pt_base.specs.declared.Rule.{Rule}
@@ -15,12 +15,8 @@ use Rattle.pc_typed.specs.declared.Function.{Function}
 use Rattle.pc_typed.specs.Uses.{holds_pause}
 use Rattle.pc_typed.specs.Finishing.{finishes, finishing}
 use Rattle.pc_typed.specs.Typing.{Typing}
-use Rattle.pc_weights.specs.Weights.{program_weight, program_single}
-use Rattle.pc_rules.specs.Marks.{Loop, Aborted, program_marks, heights}
-
-abbrev pub count : {A : Type 0} → (A → Bool) → List A → ℕ
-count test [] = 0
-count test (x ∷ rest) = (if test x then 1 else 0) + count test rest
+use Rattle.pc_rules.specs.Weights.{program_weight, program_passage}
+use Rattle.pc_rules.specs.Nests.{Loop, Aborted, program_nests, heights}
 
 abbrev pub is_input : Cell → Bool
 is_input cell = is_input_kind cell.kind
@@ -37,35 +33,35 @@ is_output cell = is_output_kind cell.kind
     is_output_kind _ = false
 
 -- the rules on loops
-pub data BreaksRule (t : Typing) : Rule → Span → Type 0 where
-  may_finish : (span : Span) (body : Stmt ℕ) (loops : ℕ) → Contains (program_marks t) (Loop span None body loops) →
-      finishes (finishing t.functions) body ≡ true → BreaksRule t E1 span
-  pauses : (span : Span) (most : ℕ) (body : Stmt ℕ) (loops : ℕ) → Contains (program_marks t) (Loop span (Some most) body loops) →
-      holds_pause body ≡ true → BreaksRule t E2 span
+pub data BreaksLoops (t : Typing) : Rule → Span → Type 0 where
+  may_finish : (span : Span) (body : Stmt ℕ) (loops : ℕ) → Contains (program_nests t) (Loop span None body loops) →
+      finishes (finishing t.functions) body ≡ true → BreaksLoops t E1 span
+  pauses : (span : Span) (most : ℕ) (body : Stmt ℕ) (loops : ℕ) → Contains (program_nests t) (Loop span (Some most) body loops) →
+      holds_pause body ≡ true → BreaksLoops t E2 span
 
 -- the limits
-pub data BreaksLimit (t : Typing) : Rule → Span → Type 0 where
-  threads : MOST_THREADS < count (λ f. f.thread) t.functions → BreaksLimit t Z2 (end_of t.length)
-  words : MOST_CELL_WORDS < sum_by (λ cell. cell.size) t.cells → BreaksLimit t Z3 (end_of t.length)
-  aborts : (span : Span) (n : ℕ) → Contains (program_marks t) (Aborted span n) → MOST_NESTED ≤ n → BreaksLimit t Z4 span
-  loops : (span : Span) (most : ℕ) (body : Stmt ℕ) (n : ℕ) → Contains (program_marks t) (Loop span (Some most) body n) → MOST_NESTED ≤ n → BreaksLimit t Z5 span
-  height : (i h : ℕ) (f : Function) → slice_get t.functions i ≡ Some f → slice_get (heights t.functions) i ≡ Some h → f.thread ≡ false → MOST_HEIGHT < h → BreaksLimit t Z6 f.name.span
-  weight : MOST_WEIGHT < program_weight t → BreaksLimit t Z7 (end_of t.length)
-  single : MOST_PASSAGE < program_single t → BreaksLimit t Z8 (end_of t.length)
-  inputs : MOST_PORTS < count is_input t.cells → BreaksLimit t Z9 (end_of t.length)
-  outputs : MOST_PORTS < count is_output t.cells → BreaksLimit t Z9 (end_of t.length)
+pub data BreaksLimits (t : Typing) : Rule → Span → Type 0 where
+  threads : MOST_THREADS < count_by (λ f. f.thread) t.functions → BreaksLimits t Z2 (end_of t.length)
+  words : MOST_CELL_WORDS < sum_by (λ cell. cell.size) t.cells → BreaksLimits t Z3 (end_of t.length)
+  aborts : (span : Span) (n : ℕ) → Contains (program_nests t) (Aborted span n) → MOST_NESTED ≤ n → BreaksLimits t Z4 span
+  loops : (span : Span) (most : ℕ) (body : Stmt ℕ) (n : ℕ) → Contains (program_nests t) (Loop span (Some most) body n) → MOST_NESTED ≤ n → BreaksLimits t Z5 span
+  height : (i h : ℕ) (f : Function) → slice_get t.functions i ≡ Some f → slice_get (heights t.functions) i ≡ Some h → f.thread ≡ false → MOST_HEIGHT < h → BreaksLimits t Z6 f.name.span
+  weight : MOST_WEIGHT < program_weight t → BreaksLimits t Z7 (end_of t.length)
+  passage : MOST_PASSAGE < program_passage t → BreaksLimits t Z8 (end_of t.length)
+  inputs : MOST_PORTS < count_by is_input t.cells → BreaksLimits t Z9 (end_of t.length)
+  outputs : MOST_PORTS < count_by is_output t.cells → BreaksLimits t Z9 (end_of t.length)
 
 -- nothing is broken
 pub record IsWithin (t : Typing) : Type 0 where
-  pub rules : (rule : Rule) (span : Span) → BreaksRule t rule span → ⊥
-  pub limits : (rule : Rule) (span : Span) → BreaksLimit t rule span → ⊥
+  pub rules : (rule : Rule) (span : Span) → BreaksLoops t rule span → ⊥
+  pub limits : (rule : Rule) (span : Span) → BreaksLimits t rule span → ⊥
 
 -- the rules on loops come before the limits
-pub data IsVerdict (t : Typing) (rule : Rule) (span : Span) : Type 0 where
-  rule_broken : IsFirst (BreaksRule t) rule span → IsVerdict t rule span
-  limit_broken : ((other : Rule) (another : Span) → BreaksRule t other another → ⊥) → IsFirst (BreaksLimit t) rule span → IsVerdict t rule span
+pub data IsFirstBroken (t : Typing) (rule : Rule) (span : Span) : Type 0 where
+  rule_broken : IsFirst (BreaksLoops t) rule span → IsFirstBroken t rule span
+  limit_broken : ((other : Rule) (another : Span) → BreaksLoops t other another → ⊥) → IsFirst (BreaksLimits t) rule span → IsFirstBroken t rule span
 
 abbrev pub IsJudged : {A : Type 0} → Typing → Result A Refusal → Type 0
 IsJudged t (Ok done) = IsWithin t
-IsJudged t (Err (Broken rule span)) = IsVerdict t rule span
+IsJudged t (Err (Broken rule span)) = IsFirstBroken t rule span
 IsJudged t (Err Memory) = Unit {0}

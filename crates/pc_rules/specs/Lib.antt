@@ -1,3 +1,6 @@
-pub mod Marks
+pub mod Known
+pub mod Nests
+pub mod Weights
+pub mod Sizes
 pub mod Judging
 pub mod Faults

@@ -1,6 +1,7 @@
 ghost use Rattle.std.specs.Prelude.{◌≡◌, min, map, IfOk};
-ghost use Rattle.pc_rules.specs.Marks.{known_height, greatest, called_height, function_height, heights};
+ghost use Rattle.pc_rules.specs.Nests.{greatest, called_height, function_height, heights};
 
+use crate::known::known_of;
 use pc_ast::Stmt;
 use pc_typed::Function;
 use pt_base::{MOST_HEIGHT, Memory};
@@ -8,16 +9,6 @@ use std::alloc::Global;
 
 /// The height that stands for itself and for every greater one.
 const TALL: u64 = MOST_HEIGHT as u64 + 1;
-
-/// What is known of a function by its number.
-pub fn known_of(known: &[u64], function: usize) -> u64
-    ensures { result ≡ known_height known.now function }
-{
-    match known.get(function) {
-        None => 0,
-        Some(height) => *height,
-    }
-}
 
 #[cycle(called)]
 fn called(s: &Stmt<u32>, known: &[u64]) -> u64
@@ -76,7 +67,7 @@ fn height(f: &Function, known: &[u64]) -> u64
 }
 
 /// The height of each function, each from those before it.
-pub fn of_each(alloc: Global, functions: &[Function]) -> Result<Vec<u64>, Memory>
+pub fn height_of_each(alloc: Global, functions: &[Function]) -> Result<Vec<u64>, Memory>
     ensures { IfOk result (λ known. known.items ≡ map (min TALL) (heights functions.now)) }
 {
     let mut known: Vec<u64> = Vec::new(alloc);

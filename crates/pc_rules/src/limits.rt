@@ -1,14 +1,16 @@
 ghost use Rattle.std.specs.Prelude.{◌≡◌, ◌+◌, ◌++◌, min, not, ◌&&◌, nat_lt, count_by, sum_by, IfOk};
-ghost use Rattle.pc_weights.specs.Weights.{program_single};
-ghost use Rattle.pc_rules.specs.Marks.{heights};
+ghost use Rattle.pc_rules.specs.Nests.{heights};
 ghost use Rattle.pc_rules.specs.Judging.{is_input, is_output};
 ghost use Rattle.pt_base.specs.First.{first_of};
 ghost use Rattle.pc_rules.specs.Faults.{is_thread, tall_faults, whole_faults};
+ghost use Rattle.pc_rules.specs.Sizes.{AreCounted};
 
-use crate::heights::{known_of, of_each};
+use crate::heights::height_of_each;
+use crate::known::known_of;
+use crate::sizes::Sizes;
+use crate::weights::{passage, weight};
 use pc_ast::CellKind;
 use pc_typed::{Cell, Function, Typed};
-use pc_weights::{single, weight};
 use pt_base::{
     First, MOST_CELL_WORDS, MOST_HEIGHT, MOST_PASSAGE, MOST_PORTS, MOST_THREADS, MOST_WEIGHT,
     Memory, Rule, Span,
@@ -75,7 +77,8 @@ fn is_tall(f: &Function, height: u64) -> bool
     !f.thread && height > u64::from(MOST_HEIGHT)
 }
 
-fn tall(first: First, functions: &[Function], heights: &[u64]) -> First
+/// Notes the routines that are too high.
+fn note_tall(first: First, functions: &[Function], heights: &[u64]) -> First
     ensures { result ≡ first_of first (tall_faults functions.now heights.now) }
 {
     let mut so_far = first;
@@ -86,34 +89,50 @@ fn tall(first: First, functions: &[Function], heights: &[u64]) -> First
     so_far
 }
 
-fn whole(first: First, typed: &Typed, single: u64) -> First
-    requires { single ≡ min (MOST_PASSAGE + 1) (program_single typed.now) }
+/// The sizes of a program, each up to one more than its limit.
+fn counted_sizes(alloc: Global, typed: &Typed) -> Result<Sizes, Memory>
+    ensures { IfOk result (λ sizes. AreCounted typed.now sizes) }
+{
+    let passage = passage(alloc, typed)?;
+    Ok(Sizes {
+        threads: threads(typed.functions()) as u64,
+        cell_words: cell_words(typed.cells()),
+        weight: weight(typed),
+        passage,
+    })
+}
+
+fn note_whole(first: First, typed: &Typed, sizes: Sizes) -> First
+    requires { AreCounted typed.now sizes }
     ensures { result ≡ first_of first (whole_faults typed.now) }
 {
     let end = Span::at_end(typed.length());
     first
-        .note_if(
-            threads(typed.functions()) > MOST_THREADS as usize,
-            Rule::Z2,
-            end,
-        )
-        .note_if(
-            cell_words(typed.cells()) > u64::from(MOST_CELL_WORDS),
-            Rule::Z3,
-            end,
-        )
-        .note_if(weight(typed) > u64::from(MOST_WEIGHT), Rule::Z7, end)
-        .note_if(single > u64::from(MOST_PASSAGE), Rule::Z8, end)
+        .note_if(sizes.threads > u64::from(MOST_THREADS), Rule::Z2, end)
+        .note_if(sizes.cell_words > u64::from(MOST_CELL_WORDS), Rule::Z3, end)
+        .note_if(sizes.weight > u64::from(MOST_WEIGHT), Rule::Z7, end)
+        .note_if(sizes.passage > u64::from(MOST_PASSAGE), Rule::Z8, end)
         .note_if(inputs(typed.cells()) > MOST_PORTS as usize, Rule::Z9, end)
         .note_if(outputs(typed.cells()) > MOST_PORTS as usize, Rule::Z9, end)
 }
 
-/// The limits on functions and on the whole program.
-pub fn beyond(alloc: Global, typed: &Typed, first: First) -> Result<First, Memory>
-    ensures { IfOk result (λ found. found ≡ first_of first (tall_faults typed.now.functions (heights typed.now.functions) ++ whole_faults typed.now)) }
+/// The first fault of all limits, and the sizes that were counted for it.
+#[derive(Clone, Copy)]
+pub struct Judged {
+    pub first: First,
+    pub sizes: Sizes,
+}
+
+/// Notes the limits on functions and on the whole program.
+pub fn note_limits(alloc: Global, typed: &Typed, first: First) -> Result<Judged, Memory>
+    ensures found { IfOk result (λ judged. judged.first ≡ first_of first (tall_faults typed.now.functions (heights typed.now.functions) ++ whole_faults typed.now)) }
+    ensures sizes { IfOk result (λ judged. AreCounted typed.now judged.sizes) }
 {
-    let single = single(alloc, typed)?;
-    let heights = of_each(alloc, typed.functions())?;
-    let tall = tall(first, typed.functions(), &heights);
-    Ok(whole(tall, typed, single))
+    let sizes = counted_sizes(alloc, typed)?;
+    let heights = height_of_each(alloc, typed.functions())?;
+    let tall = note_tall(first, typed.functions(), &heights);
+    Ok(Judged {
+        first: note_whole(tall, typed, sizes),
+        sizes,
+    })
 }

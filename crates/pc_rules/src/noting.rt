@@ -1,8 +1,9 @@
 ghost use Rattle.std.specs.Prelude.{◌≡◌, ◌+◌, min, fold, map, None};
 ghost use Rattle.pc_typed.specs.Finishing.{finishing};
-ghost use Rattle.pc_rules.specs.Marks.{Loop, Aborted, joined, one_more, marks, function_marks};
+ghost use Rattle.pc_typed.specs.Uses.{joined};
+ghost use Rattle.pc_rules.specs.Nests.{Loop, Aborted, one_more, nests, function_nests};
 ghost use Rattle.pt_base.specs.First.{first_of};
-ghost use Rattle.pc_rules.specs.Faults.{nesting_faults_at, note_mark};
+ghost use Rattle.pc_rules.specs.Faults.{nesting_faults_at, note_nest};
 
 use pc_ast::Stmt;
 use pc_typed::{Function, Typed, holds_pause, may_finish};
@@ -34,7 +35,7 @@ impl Noted {
         body: &Stmt<u32>,
         loops: u32,
     ) -> Noted
-        ensures { result ≡ note_mark (finishing typed.now.functions) self (Loop span most body.now loops) }
+        ensures { result ≡ note_nest (finishing typed.now.functions) self (Loop span most body.now loops) }
     {
         match most {
             None => Noted {
@@ -77,7 +78,7 @@ fn within(most: Option<u32>, loops: u32) -> u32
 #[cycle(walk)]
 #[tactic(auto, using(crate::proofs::Walks::walk_steps))]
 fn walk(s: &Stmt<u32>, typed: &Typed, noted: Noted, aborts: u32, loops: u32) -> Noted
-    ensures { result ≡ fold (note_mark (finishing typed.now.functions)) noted (marks s.now aborts loops) }
+    ensures { result ≡ fold (note_nest (finishing typed.now.functions)) noted (nests s.now aborts loops) }
 {
     match s {
         Stmt::Skip => noted,
@@ -116,7 +117,7 @@ fn walk(s: &Stmt<u32>, typed: &Typed, noted: Noted, aborts: u32, loops: u32) -> 
 
 #[cycle(walk)]
 fn walk_all(all: &[Stmt<u32>], typed: &Typed, noted: Noted, aborts: u32, loops: u32) -> Noted
-    ensures { result ≡ fold (note_mark (finishing typed.now.functions)) noted (joined (map (λ s. marks s aborts loops) all.now)) }
+    ensures { result ≡ fold (note_nest (finishing typed.now.functions)) noted (joined (map (λ s. nests s aborts loops) all.now)) }
 {
     let mut total = noted;
     for s in all {
@@ -126,14 +127,14 @@ fn walk_all(all: &[Stmt<u32>], typed: &Typed, noted: Noted, aborts: u32, loops: 
 }
 
 fn of_function(f: &Function, typed: &Typed, noted: Noted) -> Noted
-    ensures { result ≡ fold (note_mark (finishing typed.now.functions)) noted (function_marks f.now) }
+    ensures { result ≡ fold (note_nest (finishing typed.now.functions)) noted (function_nests f.now) }
 {
     walk_all(f.body.as_slice(), typed, noted, 0, 0)
 }
 
 /// The loops and aborts of functions of a program.
 pub fn of_functions(functions: &[Function], typed: &Typed, noted: Noted) -> Noted
-    ensures { result ≡ fold (note_mark (finishing typed.now.functions)) noted (joined (map function_marks functions.now)) }
+    ensures { result ≡ fold (note_nest (finishing typed.now.functions)) noted (joined (map function_nests functions.now)) }
 {
     let mut total = noted;
     for f in functions {

@@ -7,6 +7,7 @@ use Rattle.pc_verdict.specs.Sources.{IsSource, IsRead}
 use Rattle.pc_typed.specs.Typing.{Typing}
 use Rattle.pc_names.specs.Resolving.{Resolves, IsResolved}
 use Rattle.pc_rules.specs.Judging.{IsJudged}
+use Rattle.pc_rules.specs.declared.sizes.Sizes.{Sizes}
 use Rattle.pc_verdict.specs.Verdicts.{IsJudgedText, no_program, name_broken, rule_broken}
 
 source_said : (text : List ℕ) (f : Refusal) → IsRead text (Err f) → IsJudgedText text (Err f)
@@ -26,11 +27,11 @@ names_refused text program r f is source resolved =
     let P : Result Typing Refusal → Type 0 = λ x. IsResolved program x in names_said text program f source (subst P is resolved)
 
 rules_said : (text : List ℕ) (program : Program) (typing : Typing) (f : Refusal) → IsSource text program → Resolves program typing →
-    IsJudged {A = Unit {0}} typing (Err f) → IsJudgedText text (Err f)
+    IsJudged {A = Sizes} typing (Err f) → IsJudgedText text (Err f)
 rules_said text program typing (Broken rule span) source resolved judged = rule_broken program typing source resolved judged
 rules_said text program typing Memory source resolved judged = tt
 
-pub rules_refused : (text : List ℕ) (program : Program) (typing : Typing) (r : Result (Unit {0}) Refusal) (f : Refusal) → r ≡ Err f → IsSource text program →
+pub rules_refused : (text : List ℕ) (program : Program) (typing : Typing) (r : Result Sizes Refusal) (f : Refusal) → r ≡ Err f → IsSource text program →
     Resolves program typing → IsJudged typing r → IsJudgedText text (Err f)
 rules_refused text program typing r f is source resolved judged =
-    let P : Result (Unit {0}) Refusal → Type 0 = λ x. IsJudged typing x in rules_said text program typing f source resolved (subst P is judged)
+    let P : Result Sizes Refusal → Type 0 = λ x. IsJudged typing x in rules_said text program typing f source resolved (subst P is judged)

@@ -10,7 +10,7 @@ use Rattle.pc_verdict.specs.Sources.{IsSource, Breaks}
 use Rattle.pc_typed.specs.Breaking as names
 use Rattle.pc_typed.specs.Typing.{Typing}
 use Rattle.pc_names.specs.Resolving.{Resolves}
-use Rattle.pc_rules.specs.Judging.{IsWithin, IsVerdict}
+use Rattle.pc_rules.specs.Judging.{IsWithin, IsFirstBroken}
 use Rattle.pc_verdict.specs.declared.judging.Accepted.{Accepted}
 
 -- the text's tokens spell this program, which breaks no rule on names, loops and limits, and this is it with numbers for names
@@ -23,7 +23,7 @@ pub record IsAccepted (text : List ℕ) (program : Program) (typing : Typing) : 
 pub data BreaksFirst (text : List ℕ) (rule : Rule) (span : Span) : Type 0 where
   no_program : Breaks text rule span → BreaksFirst text rule span
   name_broken : (program : Program) → IsSource text program → IsFirst (names.Breaks program.items program.length) rule span → BreaksFirst text rule span
-  rule_broken : (program : Program) (typing : Typing) → IsSource text program → Resolves program typing → IsVerdict typing rule span → BreaksFirst text rule span
+  rule_broken : (program : Program) (typing : Typing) → IsSource text program → Resolves program typing → IsFirstBroken typing rule span → BreaksFirst text rule span
 
 -- the verdict: the program, or the first rule that is broken
 abbrev pub IsJudgedText : List ℕ → Result Accepted Refusal → Type 0

@@ -1,24 +1,28 @@
+ghost use Rattle.std.specs.Prelude.{IfOk};
+ghost use Rattle.pc_rules.specs.Sizes.{AreSizes};
 ghost use Rattle.pc_verdict.specs.Verdicts.{IsJudgedText};
 
 use crate::sources::source_of;
 use pc_grammar::Program;
 use pc_names::resolve;
-use pc_rules::judge;
+use pc_rules::{Sizes, judge};
 use pc_typed::Typed;
 use pt_base::{Refusal, Text};
 use std::alloc::Global;
 
-/// A program that keeps every rule: its tree, and the same with numbers for names.
+/// A program that keeps every rule: its tree, the same with numbers for names, and how large it is.
 #[derive(Drop)]
 pub struct Accepted {
     pub program: Program,
     pub typed: Typed,
+    pub sizes: Sizes,
 }
 
 /// The program of a source that keeps every rule, or the first rule that it breaks: of size, tokens, grammar, names, loops
 /// and limits in this order, and among each of these by the start of the place and then by the rule's number.
 pub fn judged(alloc: Global, text: &Text) -> Result<Accepted, Refusal>
-    ensures { IsJudgedText text.now result }
+    ensures verdict { IsJudgedText text.now result }
+    ensures sizes { IfOk result (λ accepted. AreSizes accepted.typed accepted.sizes) }
 {
     let program = match source_of(alloc, text) {
         Ok(program) => program,
@@ -29,7 +33,11 @@ pub fn judged(alloc: Global, text: &Text) -> Result<Accepted, Refusal>
         Err(refusal) => return Err(refusal),
     };
     match judge(alloc, &typed) {
-        Ok(()) => Ok(Accepted { program, typed }),
+        Ok(sizes) => Ok(Accepted {
+            program,
+            typed,
+            sizes,
+        }),
         Err(refusal) => Err(refusal),
     }
 }

@@ -10,7 +10,8 @@ const FIRST: &str =
 const SHARED: &str =
     "ReactiveOutput int o = 0; ReactiveOutput int p = 0; int x = 0; void f() { x = 1; EOT; } void g() { p = x; x = 2; EOT; } void main() { PAR(f, g); o = x; }";
 
-// A weak abort in a loop: the body ends the tick in which it is aborted, and `main` goes on behind it in the next.
+// A weak abort in a loop: in the tick in which it fires its body still runs to its pause, and `main` goes on behind it in the
+// same tick.
 const WEAK: &str =
     "ReactiveInput int a = 0; ReactiveOutput int o = 0; void main() { while (1) { weak abort { o = o + 1; EOT; o = o + 2; EOT; } when pre (a); o = o + 10; } }";
 

@@ -7,7 +7,6 @@ mod Meanings
 mod Meant
 mod Ready
 mod RowsFit
-mod Ruled
 mod Shelves
 mod Told
 mod Unread

@@ -69,7 +69,7 @@ pub record IsBound (image cert costs : List ℕ) (files : Option Files) : Type 0
   pub free_ticks : BoundsFreeTicks image_read costs_read cert_read.bound
   pub runs : BoundsRuns image_read costs_read cert_read.bound
 
--- the table of costs that a check names was loaded, after image and certificate were read, and is refused
+-- the table of costs that `check` or `exec` names was loaded and is refused
 pub data CostsRefused (files : Option Files) : Option (Command (List ℕ)) → Type 0 where
   check_refuses_costs : (image cert costs text : List ℕ) (e : Ending) → costs ≢ unit_word → Holds files costs costs_most text →
       CostsFail (Some text) e → number_of e ≡ 6 → CostsRefused files (Some (Check image cert costs))

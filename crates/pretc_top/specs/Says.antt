@@ -12,7 +12,7 @@ use Rattle.pc_grammar.specs.Trees.{Program}
 use Rattle.pc_verdict.specs.Sources.{IsSource}
 use Rattle.pc_print.specs.Canonical.{program_text}
 use Rattle.pc_typed.specs.Typing.{Typing}
-use Rattle.pc_weights.specs.Weights.{program_weight, program_single}
+use Rattle.pc_rules.specs.Weights.{program_weight, program_passage}
 use Rattle.pc_verdict.specs.Verdicts.{IsAccepted}
 use Rattle.pc_generator.specs.Generated.{generated}
 use Rattle.pretc_run.specs.declared.endings.Ending.{Ending}
@@ -39,7 +39,7 @@ pub record IsPrinted (text : List ℕ) (due : List (List ℕ)) : Type 0 where
 
 -- the threads of a program, the words of its cells, its weight, and the words of one passage of its threads
 abbrev pub rules_text : Typing → List ℕ
-rules_text t = accepted_line (count_by (λ f. f.thread) t.functions) (sum_by (λ cell. cell.size) t.cells) (program_weight t) (program_single t)
+rules_text t = accepted_line (count_by (λ f. f.thread) t.functions) (sum_by (λ cell. cell.size) t.cells) (program_weight t) (program_passage t)
 
 -- `rules`: the counts of a text that keeps every rule
 pub record IsRuled (text : List ℕ) (due : List (List ℕ)) : Type 0 where

@@ -1,37 +1,17 @@
-ghost use Rattle.std.specs.Prelude.{◌≡◌, ◌∷◌, [], IfOk};
-ghost use Rattle.pc_rules.specs.Judging.{IsWithin};
+ghost use Rattle.std.specs.Prelude.{◌∷◌, []};
 ghost use Rattle.pc_verdict.specs.Verdicts.{BreaksFirst};
-ghost use Rattle.pretc_top.specs.Says.{SaysEnds, IsRuled, rules_text};
+ghost use Rattle.pretc_top.specs.Says.{SaysEnds, IsRuled};
 ghost use Rattle.pretc_top.specs.Comes.{Concludes};
 
 use crate::saying::{Saying, said};
 use crate::stages::load_accepted;
-use pc_rules::{cell_words, threads};
-use pc_typed::Typed;
-use pc_weights::{single, weight};
 use pretc_run::{Ending, finish_with};
-use pt_base::{Memory, Text};
+use pt_base::Text;
 use pt_outside::{Shelf, Sink};
 use pt_trace::{LineBuffer, accepted_line};
 use std::alloc::Global;
 
-// The counts of a program that keeps every rule.
-fn counts_line(alloc: Global, typed: &Typed) -> Result<LineBuffer, Memory>
-    requires { IsWithin typed.now }
-    ensures { IfOk result (λ line. line ≡ rules_text typed.now) }
-{
-    let passage = match single(alloc, typed) {
-        Ok(passage) => passage,
-        Err(memory) => return Err(memory),
-    };
-    let mut line = LineBuffer::empty();
-    let threads = threads(typed.functions()) as u64;
-    let words = cell_words(typed.cells());
-    accepted_line(threads, words, weight(typed), passage, &mut line);
-    Ok(line)
-}
-
-// What the rules say of a loaded program.
+// What the rules say of a loaded program: its sizes, if it keeps them all.
 fn ruled<H: Shelf>(alloc: Global, program: &Text, shelf: &mut H) -> Saying
     ensures ends { SaysEnds BreaksFirst IsRuled program.now (H.told shelf.old) (H.told shelf.new)
         (result.line ∷ []) result.ending }
@@ -40,12 +20,18 @@ fn ruled<H: Shelf>(alloc: Global, program: &Text, shelf: &mut H) -> Saying
         Ok(accepted) => accepted,
         Err(ending) => return said(ending),
     };
-    match counts_line(alloc, &accepted.typed) {
-        Ok(line) => Saying {
-            ending: Ending::Done,
-            line,
-        },
-        Err(_) => said(Ending::WantOfMemory),
+    let sizes = accepted.sizes;
+    let mut line = LineBuffer::empty();
+    accepted_line(
+        sizes.threads,
+        sizes.cell_words,
+        sizes.weight,
+        sizes.passage,
+        &mut line,
+    );
+    Saying {
+        ending: Ending::Done,
+        line,
     }
 }
 

@@ -1,6 +1,7 @@
 ghost use Rattle.std.specs.Prelude.{◌≡◌, IfOk, IfErr, OnOk};
 ghost use Rattle.pt_outside.specs.Files.{Holds};
 ghost use Rattle.pt_image.specs.Text.{text_of};
+ghost use Rattle.pc_rules.specs.Sizes.{AreSizes};
 ghost use Rattle.pc_verdict.specs.Sources.{Breaks};
 ghost use Rattle.pc_verdict.specs.Verdicts.{BreaksFirst};
 ghost use Rattle.pretc_top.specs.Loading.{IsAsBefore, LoadFails, ProgramFails, IsLoaded, IsTaken};
@@ -71,6 +72,7 @@ pub fn load_accepted<H: Shelf>(
     shelf: &mut H,
 ) -> Result<Accepted, Ending>
     ensures taken { IfOk result (λ a. IsTaken name.now (H.told shelf.old).files a.program a.typed) }
+    ensures sizes { IfOk result (λ a. AreSizes a.typed a.sizes) }
     ensures kept { OnOk result (IsAsBefore (H.told shelf.old) (H.told shelf.new)) }
     ensures failed { IfErr result (λ e. ProgramFails BreaksFirst name.now (H.told shelf.old) (H.told shelf.new) e) }
 {

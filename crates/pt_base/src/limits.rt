@@ -1,4 +1,5 @@
-//! The limits of the language, each written once (`docs/language.md`, "Tokens", "Nesting", "Loops and limits").
+//! The limits of the language, each written once (`docs/language.md`, "Tokens", "Expressions", "Statements" and
+//! "Loops and limits").
 
 /// The most bytes of a source.
 pub const MOST_SOURCE_BYTES: u32 = 1_048_576;

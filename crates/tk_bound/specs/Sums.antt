@@ -1,4 +1,4 @@
--- Sums over the children of a fork of numbers that may be none: docs/bounds.md, "Forks".
+-- Sums over the children of a fork of numbers that may be none: docs/bounds.md, "Acceptance".
 use Rattle.tk_bound.specs.declared.view.Side.{Side}
 use Rattle.tk_bound.specs.declared.view.Side.TheVariants.{ToPause, ToEnd}
 use Rattle.std.specs.Prelude.{ℕ, zero, suc, ◌+◌, ◌-◌, nat_le, if◌then◌else◌, List, [], ◌∷◌, Option, Some, None}

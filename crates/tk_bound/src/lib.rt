@@ -1,5 +1,6 @@
-//! What a certificate asks, and what it is worth: where all demands hold, no free tick traps or is charged more than the
-//! bound, and no tick of a run is charged more than the bound or traps but at a bad address.
+//! What a certificate asks, and what it is worth: where all demands hold and a tick may take as many cycles as the bound,
+//! no free tick traps or is charged more than the bound, and no tick of a run is charged more than the bound or traps but at
+//! a bad address.
 //!
 //! Read `Words`, `Kinds`, `Sums`, `Shape`, `Acceptance`, `Bounded` and `Walks` in `specs/` in this order; `docs/bounds.md` says the
 //! same in words. The functions below do nothing: their contracts are the theorem.

@@ -1,5 +1,5 @@
 use Rattle.std.proofs.Common.{◌≡◌, max, map, drop}
-use Rattle.pc_rules.specs.Marks.{greatest, called_height}
+use Rattle.pc_rules.specs.Nests.{greatest, called_height}
 use Rattle.pc_rules.proofs.heights.+called.Given as goal
 
 abbrev pub invariant-all_called-loop-s : goal.invariant-all_called-loop-s

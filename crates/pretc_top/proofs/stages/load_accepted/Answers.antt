@@ -7,4 +7,4 @@ returns-in-Err-clause-failed g c = program_missing c.in-Err.ending c.in-Err.ensu
 
 pub returns-clause-failed : goal.returns-clause-failed
 returns-clause-failed g c =
-    unaccepted _ _ _ c.in-Ok.text c.in-Err-judged.refusal c.ending_of.result c.in-Ok.ensures.held c.in-Err-judged.ensures c.in-Ok.ensures.kept c.ending_of.ensures
+    unaccepted _ _ _ c.in-Ok.text c.in-Err-judged.refusal c.ending_of.result c.in-Ok.ensures.held c.in-Err-judged.ensures.verdict c.in-Ok.ensures.kept c.ending_of.ensures

@@ -19,7 +19,7 @@ below-or-last zero (suc n) lt = inl (omega arith)
 below-or-last (suc f) zero lt = absurd (omega arith)
 below-or-last (suc f) (suc n) lt = ⊎_elim (λ l. inl (omega (arith, l))) (λ e. inr (ap suc e)) (below-or-last f n (omega arith))
 
-below-or-past : (f n : ℕ) → (f < n) ⊎ (n ≤ f)
+pub below-or-past : (f n : ℕ) → (f < n) ⊎ (n ≤ f)
 below-or-past f zero = inr (omega arith)
 below-or-past zero (suc n) = inl (omega arith)
 below-or-past (suc f) (suc n) = ⊎_elim (λ l. inl (omega (arith, l))) (λ l. inr (omega (arith, l))) (below-or-past f n)

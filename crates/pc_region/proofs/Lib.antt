@@ -20,6 +20,7 @@ pub mod Bounds
 pub mod Sizing
 pub mod Threads
 pub mod Limits
+pub mod Numbering
 pub mod Slotwise
 pub mod Configured
 pub mod Runs

@@ -28,7 +28,7 @@ use Rattle.pc_region.proofs.Threads.{total-append, all-append, all-as, all-both,
 
 -- they start earlier functions alone
 mutual
-  starts-earlier : (below : ℕ) (n : Node) → IsEarlier below n → AllByRecursion (λ g. g < below) (threads_of n)
+  pub starts-earlier : (below : ℕ) (n : Node) → IsEarlier below n → AllByRecursion (λ g. g < below) (threads_of n)
   starts-earlier below (straight steps) early = tt
   starts-earlier below (sequence nodes) early = all-start-earlier below nodes early
   starts-earlier below (branch test a b) early = all-append (λ g. g < below) (threads_of a) (threads_of b) (starts-earlier below a early.0) (starts-earlier below b early.1)

@@ -12,7 +12,7 @@ pub total-append : (worth : ℕ → ℕ) (xs ys : List ℕ) → total_of worth (
 total-append worth [] ys = omega arith
 total-append worth (x ∷ xs) ys = let h = total-append worth xs ys in omega (arith, h)
 
-times-append : (q : ℕ) (xs ys : List ℕ) → times_in q (xs ++ ys) ≡ times_in q xs + times_in q ys
+pub times-append : (q : ℕ) (xs ys : List ℕ) → times_in q (xs ++ ys) ≡ times_in q xs + times_in q ys
 times-append q [] ys = omega arith
 times-append q (x ∷ xs) ys = let h = times-append q xs ys in omega (arith, h)
 
@@ -42,11 +42,11 @@ total-mono worth other [] h = omega arith
 total-mono worth other (x ∷ xs) h = let r = total-mono worth other xs h.1 in omega (arith, r, h.0)
 
 -- a list without a number
-abbrev without : ℕ → List ℕ → List ℕ
+abbrev pub without : ℕ → List ℕ → List ℕ
 without m [] = []
 without m (x ∷ xs) = if m == x then without m xs else x ∷ without m xs
 
-total-without : (worth : ℕ → ℕ) (m : ℕ) (xs : List ℕ) → total_of worth xs ≡ times_in m xs * worth m + total_of worth (without m xs)
+pub total-without : (worth : ℕ → ℕ) (m : ℕ) (xs : List ℕ) → total_of worth xs ≡ times_in m xs * worth m + total_of worth (without m xs)
 total-without worth m [] = omega arith
 total-without worth m (x ∷ xs) =
     let h = total-without worth m xs in
@@ -54,7 +54,7 @@ total-without worth m (x ∷ xs) =
     (λ e. let s : x ≡ m = same-of m x e in let w : worth x ≡ worth m = ap worth s in rw e (omega (arith, h, w)))
     (λ e. rw e (omega (arith, h)))
 
-times-without : (q m : ℕ) (xs : List ℕ) → times_in q (without m xs) ≤ times_in q xs
+pub times-without : (q m : ℕ) (xs : List ℕ) → times_in q (without m xs) ≤ times_in q xs
 times-without q m [] = omega arith
 times-without q m (x ∷ xs) =
     let h = times-without q m xs in
@@ -66,12 +66,12 @@ total-less worth m (x ∷ xs) =
     let h = total-less worth m xs in
     split (m == x) (λ e. rw e (omega (arith, h))) (λ e. rw e (omega (arith, h)))
 
-all-without : (P : ℕ → Type 0) (m : ℕ) (xs : List ℕ) → AllByRecursion P xs → AllByRecursion P (without m xs)
+pub all-without : (P : ℕ → Type 0) (m : ℕ) (xs : List ℕ) → AllByRecursion P xs → AllByRecursion P (without m xs)
 all-without P m [] h = tt
 all-without P m (x ∷ xs) h =
     split (m == x) (λ e. rw e (all-without P m xs h.1)) (λ e. rw e (h.0, all-without P m xs h.1))
 
-below-without : (n : ℕ) (xs : List ℕ) → AllByRecursion (λ x. x < suc n) xs → AllByRecursion (λ x. x < n) (without n xs)
+pub below-without : (n : ℕ) (xs : List ℕ) → AllByRecursion (λ x. x < suc n) xs → AllByRecursion (λ x. x < n) (without n xs)
 below-without n [] h = tt
 below-without n (x ∷ xs) h =
     split (n == x) (λ e. rw e (below-without n xs h.1))
@@ -87,7 +87,7 @@ none-past q n (x ∷ xs) le h =
     let r = none-past q n xs le h.1 in
     rw e (omega (arith, r))
 
-picked : (P : ℕ → Type 0) (m : ℕ) (xs : List ℕ) → AllByRecursion P xs → 1 ≤ times_in m xs → P m
+pub picked : (P : ℕ → Type 0) (m : ℕ) (xs : List ℕ) → AllByRecursion P xs → 1 ≤ times_in m xs → P m
 picked P m [] all le = absurd (omega (arith, le))
 picked P m (x ∷ xs) all le =
     split (m == x) (λ e. subst P (same-of m x e) all.0) (λ e. let k : 1 ≤ times_in m xs = let r : 1 ≤ 0 + times_in m xs = rw e at le in omega (arith, r) in picked P m xs all.1 k)

@@ -1,5 +1,6 @@
 -- The laws of this crate, at the machine's data.
-use Rattle.std.specs.Prelude.{ℕ, ℤ, ◌+◌, ◌*◌, ◌≤◌, length, Bool, IsTrue, true, List, []}
+use Rattle.std.specs.Prelude.{◌≡◌, ℕ, ℤ, ◌+◌, ◌*◌, ◌<◌, ◌≤◌, ◌++◌, length, Bool, IsTrue, true, List, []}
+use Rattle.std.specs.List.{AllByRecursion}
 use Rattle.mb_isa.specs.Costs.{IsCosts}
 use Rattle.mb_pfu.specs.Tree.{Tree}
 use Rattle.pt_image.specs.declared.Parts.{Parts}
@@ -19,8 +20,9 @@ use Rattle.pc_region.specs.Program.{InOrder}
 use Rattle.pc_region.specs.Words.{Writing, DataLaws}
 use Rattle.pc_region.specs.Image.{IsImageOf, StandsAt, steps_at, TickIs}
 use Rattle.pc_region.specs.Sizing.{sizes_of, Count}
-use Rattle.pc_region.specs.Limits.{IsWithinLimits}
-use Rattle.pc_region.specs.Runs.{IsSteady, RunLaws, AreTicksOf, beginning}
+use Rattle.pc_region.specs.Limits.{started_by, IsWithinLimits}
+use Rattle.pc_region.specs.Numbering.{AreSlots, slots_of, function_of, first_started, HaveSlots}
+use Rattle.pc_region.specs.Runs.{IsSteady, IsRow, RunLaws, AreTicksOf, beginning}
 use Rattle.pc_region.specs.Slotwise.{StandsSlotwise}
 use Rattle.pc_region.specs.Example as example
 
@@ -61,7 +63,7 @@ RunsAreThoseOfTheFlow =
     (compared : ℕ → Cells → State → Bool) (kept : Position → Bool) (most : ℕ) →
     IsImageOf parent image costs f writing sizes placing → IsWithinLimits image f writing sizes →
     RunLaws image f writing (Agree compared) → IsSteady f (λ p. IsTrue (kept p)) → 1000000000000 ≤ most →
-    (temps : Temps) (rows : List (List ℤ)) → AreTicksOf parent image f (beginning f temps) rows (run_of image costs most rows)
+    (temps : Temps) (rows : List (List ℤ)) → AllByRecursion IsRow rows → AreTicksOf parent image f (beginning f temps) rows (run_of image costs most rows)
 
 -- Wherever a flow stands between two ticks, the unit is in a configuration: so what is said of all free ticks is said of its ticks.
 abbrev pub FlowsStandInConfigurations : Type 0
@@ -82,3 +84,11 @@ TheExampleMeetsThem =
     IsImageOf example.parent example.image costs example.flow example.writing example.sizes example.placing
     × IsWithinLimits example.image example.flow example.writing example.sizes
     × ((row : List ℤ) → DataLaws (machine example.image row) (Agree (λ n d w. true)) (sampled example.flow row) example.writing)
+
+-- There is one list of functions for the slots of a flow, and the threads of each fork are in slots of their own.
+abbrev pub SlotsAreNumbered : Type 0
+SlotsAreNumbered =
+    (f : Flow) → InOrder 0 f.bodies → f.main < length f.bodies →
+    AreSlots f (slots_of f) × ((functions : List ℕ) → AreSlots f functions → functions ≡ slots_of f)
+    × ((c : ℕ) → c < length (slots_of f) → (before functions behind : List ℕ) →
+    started_by f.bodies (function_of f c) ≡ before ++ (functions ++ behind) → HaveSlots f c (first_started f c + length before) functions)

@@ -13,6 +13,8 @@ pub mod Bounds
 pub mod Image
 pub mod Sizing
 pub mod Limits
+pub mod Numbering
+pub mod Layable
 pub mod Runs
 pub mod Slotwise
 pub mod Example

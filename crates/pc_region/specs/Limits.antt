@@ -53,12 +53,13 @@ abbrev pub passage : Sizes → List Node → ℕ → ℕ
 passage sizes bodies f = span (without_threads sizes) (body_at bodies f) + 1
 
 -- What the limits of the language give: each thread is started in one place, there are 64 at most, their passages are 2,000,000
--- words at most in all, and a condition has 60,002 at most; the sizes of threads are no greater than need be.
+-- words at most in all, and a condition has 60,002 at most; there are 64 inputs and 64 outputs at most; the sizes of threads are
+-- no greater than need be.
 pub record IsWithinLimits (image : Parts) (f : Flow) (writing : Writing) (sizes : Sizes) : Type 0 where
   pub main_is : f.main < length f.bodies
   pub once : (q : ℕ) → times_in q (f.main ∷ []) + times_below (started_by f.bodies) q (length f.bodies) ≤ 1
   pub few : 1 + sum_below (started_by f.bodies) (λ g. 1) (length f.bodies) ≤ 64
   pub passages : passage sizes f.bodies f.main + sum_below (started_by f.bodies) (passage sizes f.bodies) (length f.bodies) ≤ 2000000
   pub conditions : (j : ℕ) → condition_words writing f j ≤ 60002
-  pub ports : length image.inputs + length image.outputs ≤ 64
+  pub ports : length image.inputs + length image.outputs ≤ 128
   pub exact : (g : ℕ) → sizes.threads g ≤ span sizes (body_at f.bodies g) + 1

@@ -1,5 +1,7 @@
 -- What it says that a run of an image is the run of its flow.
-use Rattle.std.specs.Prelude.{◌≡◌, ℕ, ℤ, ◌≤◌, List, [], ◌∷◌}
+use Rattle.std.specs.Prelude.{◌≡◌, ℕ, ℤ, ◌≤◌, FitsSigned, List, [], ◌∷◌}
+use Rattle.std.specs.Int.{w32}
+use Rattle.std.specs.List.{AllByRecursion}
 use Rattle.pt_image.specs.declared.Parts.{Parts}
 use Rattle.mb_step.specs.Cells.{Cells, machine, outputs_of}
 use Rattle.mb_step.specs.Run.{Ticked, Ends, Trapped, loaded_cells}
@@ -21,10 +23,14 @@ pub record IsSteady (f : Flow) (Kept : Position → Type 0) : Type 0 where
   pub same : (p : Position) → Kept p → (b c w v : State) → b.store ≡ c.store → w.store ≡ v.store → SameEnd (goes f p b w) (goes f p c v)
   pub keeps : (p : Position) → Kept p → (b w : State) → Kept (point_of (goes f p b w)).position
 
+-- the words of a row have 32 bits
+abbrev pub IsRow : List ℤ → Type 0
+IsRow row = AllByRecursion (FitsSigned w32) row
+
 -- What registers and memory owe in a run: on each row the laws of the data; at the beginning they stand for the declared words;
 -- and the outputs' words are in their places.
 pub record RunLaws (image : Parts) (f : Flow) (writing : Writing) (Represents : Cells → State → Type 0) : Type 0 where
-  pub data_laws : (row : List ℤ) → DataLaws (machine image row) Represents (sampled f row) writing
+  pub data_laws : (row : List ℤ) → IsRow row → DataLaws (machine image row) Represents (sampled f row) writing
   pub temps : Temps
   pub begins : Represents (loaded_cells image) (record { store = f.declared; temps = temps })
   pub shows : (d : Cells) (w : State) → Represents d w → outputs_of image d ≡ words_at f.outputs w.store

@@ -2,15 +2,15 @@
 //! that holds a flow does what the flow does in that tick.
 //!
 //! It is said once over `mb_step`, for any data and any surroundings. Read `Slots`, `Places`, `Standing`, `Laid`, `Counts`, `Law`,
-//! `Program`, `Turns`, `Tests`, `Ticks`, `Words`, `Image`, `Bounds`, `Sizing`, `Limits`, `Slotwise`, `Runs`, `Example` and `Laws`
-//! in `specs/` in this order. `Laid` says where the words of a node stand, `Standing` where the slots of a residual do; `Law`
+//! `Program`, `Turns`, `Tests`, `Ticks`, `Words`, `Image`, `Bounds`, `Sizing`, `Limits`, `Numbering`, `Layable`, `Slotwise`, `Runs`,
+//! `Example` and `Laws` in `specs/` in this order. `Laid` says where the words of a node stand, `Standing` where the slots of a residual do; `Law`
 //! says what it is that code does what is meant; `Image` says when an image is that of a flow. What is left to whoever uses it
 //! are the laws of the data (`DataLaws`) and that an image is laid out so (`IsImageOf`). The functions below do nothing: their
 //! contracts are the laws.
 #![tactic(auto)]
 
 ghost use Rattle.pc_region.specs.Laws.{TicksAreThoseOfTheFlow, SizesAreThere, TicksAreLimited};
-ghost use Rattle.pc_region.specs.Laws.{RunsAreThoseOfTheFlow, FlowsStandInConfigurations, SlotsStandAsTheResidual, TheExampleMeetsThem};
+ghost use Rattle.pc_region.specs.Laws.{RunsAreThoseOfTheFlow, FlowsStandInConfigurations, SlotsStandAsTheResidual, SlotsAreNumbered, TheExampleMeetsThem};
 
 /// Each tick of an image of a flow does what the flow does in that tick: it ends where the flow stands then, with data for its
 /// state, and is charged at most 255 for each of so many steps; on every row of inputs, from wherever the flow stands, for
@@ -45,6 +45,12 @@ pub fn flows_stand_in_configurations()
 /// child has ended or stands for its member of the group, and all other slots are free.
 pub fn slots_stand_as_the_residual()
     ensures { SlotsStandAsTheResidual }
+{}
+
+/// Slot 0 runs `main`, and in the next slots run the threads that the slots start, slot after slot in rising order, and of each
+/// slot in the order of the text. So the threads of a fork are in slots one after another, above the slot that starts them.
+pub fn slots_are_numbered()
+    ensures { SlotsAreNumbered }
 {}
 
 /// What these laws ask for can be met: an image of a flow with a routine, a bounded loop, a thread and a loop without a bound

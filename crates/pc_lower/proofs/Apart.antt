@@ -1,5 +1,5 @@
 -- The words of two cells don't meet, and an argument of a call names no parameter of the function that is called.
-use Rattle.std.proofs.Common.{◌≡◌, ℕ, zero, suc, ◌+◌, ◌<◌, ◌≤◌, Bool, true, false, ◌⊎◌, inl, inr, ⊎_elim, List, [], ◌∷◌, ◌++◌, map, length, Option, Some, None, refl, sym, ap, subst, ◌∙◌, append_assoc, length-append, arith}
+use Rattle.std.proofs.Common.{◌≡◌, ℕ, zero, suc, ◌+◌, ◌<◌, ◌≤◌, Bool, true, false, ◌⊎◌, inl, inr, ⊎_elim, List, [], ◌∷◌, ◌++◌, map, length, Option, Some, refl, sym, ap, subst, ◌∙◌, length-append, arith}
 use Rattle.std.specs.Prelude.{Contains, slice_get, nat_eq}
 use Rattle.std.proofs.lemmas.Bool.{eqb-true}
 use Rattle.std.proofs.lemmas.List.{length-map}
@@ -11,7 +11,7 @@ use Rattle.pc_ast.specs.declared.expressions.Expr.TheFolds.{fold-roll-Expr, ind-
 use Rattle.pc_ast.specs.declared.expressions.Expr.TheViews.{roll-Expr}
 use Rattle.pc_ast.specs.declared.expressions.Expr.TheOpen.{Expr-F, Number, Var, Elem, Unary, Chain}
 use Rattle.pc_ast.specs.declared.programs.CellKind.{CellKind}
-use Rattle.pc_ast.specs.declared.programs.CellKind.TheVariants.{Array as ArrayKind, Parameter, Local}
+use Rattle.pc_ast.specs.declared.programs.CellKind.TheVariants.{Parameter, Local}
 use Rattle.pc_ast.specs.declared.programs.Item.{Item}
 use Rattle.pc_ast.specs.declared.programs.Item.TheVariants.{Scalar, Array, Function as FunctionItem}
 use Rattle.pc_typed.specs.declared.roles.Role.TheVariants.{Reads, ReadsElement}
@@ -19,15 +19,15 @@ use Rattle.pc_typed.specs.declared.typed.Cell.{Cell}
 use Rattle.pc_typed.specs.declared.typed.Function.{Function}
 use Rattle.pc_typed.specs.Uses.{Use, use_of, operands_uses, expression_step, expression_uses}
 use Rattle.pc_typed.specs.Places.{names_of}
-use Rattle.pc_typed.specs.Typing.{Typing, cell_of, item_cells, cells_of, functions_in, numbers_from, typed_locals, typed_item, typed_from}
-use Rattle.pc_typed.specs.Meant.{is_item_kind, is_array_kind, own_cells, IsNear, item, own, NamesCell, IsMeant}
-use Rattle.pc_typed.proofs.Cuts.{get_left, get_right, contains_get, Given, in_map}
+use Rattle.pc_typed.specs.Typing.{Typing, cell_of, item_cells, cells_of, functions_in, numbers_from, typed_locals, typed_item}
+use Rattle.pc_typed.specs.Meant.{is_item_kind, is_array_kind, own_cells, NamesCell, IsMeant}
+use Rattle.pc_typed.proofs.Cuts.{get_left, get_right, in_map}
 use Rattle.pc_typed.proofs.Standing.{cells_append, functions_append}
 use Rattle.pc_meaning.specs.declared.places.Room.{Room}
 use Rattle.pc_meaning.specs.Tree.{Expression}
 use Rattle.pc_meaning.specs.Programs.{rooms_from, rooms_of, room_at, place_of, expression_of}
 use Rattle.pc_meaning.specs.Programs as programs
-use Rattle.pc_lower.specs.Sound.{Apart, ApartAll, EachApart}
+use Rattle.pc_lower.specs.Sound.{Apart, ApartAll}
 
 -- ---- the words of cells
 

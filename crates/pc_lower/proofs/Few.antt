@@ -1,8 +1,8 @@
 -- Each place of a flow is one of 652 temporaries.
-use Rattle.std.proofs.Common.{ℕ, Bool, List, [], ◌∷◌, ◌++◌, Option, Some, None}
+use Rattle.std.proofs.Common.{Bool, List, [], ◌∷◌, ◌++◌}
 use Rattle.pc_meaning.specs.Tree.{Expression, Statement, Statements, skip, assign, call_of, block, if_so, repeat, loop, eot, par, abort, none, each, Routine}
 use Rattle.pc_lower.specs.Aborts.{aborts_in, aborts_in_all, aborts_of}
-use Rattle.pc_lower.specs.Lowered.{body_of, bodies_of, conditions_of}
+use Rattle.pc_lower.specs.Lowered.{bodies_of, conditions_of}
 use Rattle.pc_lower.specs.Counts.{StatementNested, StatementsNested, RoutinesNested, BodiesWithin, ConditionsWithin}
 use Rattle.pc_lower.proofs.Temporaries.{routine_within, condition_within}
 

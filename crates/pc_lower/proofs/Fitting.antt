@@ -1,6 +1,6 @@
 -- A statement whose names mean what the rules ask of them is one that lowering takes.
-use Rattle.std.proofs.Common.{◌≡◌, ℕ, zero, suc, ◌+◌, ◌<◌, ◌≤◌, ◌^◌, Bool, true, false, ◌||◌, List, [], ◌∷◌, ◌++◌, map, length, Option, Some, None, refl, sym, ap, subst, ◌∙◌, arith}
-use Rattle.std.specs.Prelude.{Contains, slice_get, unwrap_or}
+use Rattle.std.proofs.Common.{◌≡◌, ℕ, zero, suc, ◌<◌, Bool, true, List, [], ◌∷◌, map, length, Option, Some, None, refl, sym, ap, subst}
+use Rattle.std.specs.Prelude.{Contains, slice_get}
 use Rattle.pt_base.proofs.Elements.{in_head, in_tail, in_left, in_right}
 use Rattle.pc_ast.specs.declared.expressions.Expr.{Expr}
 use Rattle.pc_ast.specs.declared.expressions.Goal.{Goal}
@@ -9,18 +9,17 @@ use Rattle.pc_ast.specs.declared.statements.Stmt.{Stmt}
 use Rattle.pc_ast.specs.declared.statements.Stmt.TheFolds.{fold-roll-Stmt, ind-Stmt, map-Stmt}
 use Rattle.pc_ast.specs.declared.statements.Stmt.TheViews.{roll-Stmt}
 use Rattle.pc_ast.specs.declared.statements.Stmt.TheOpen.{Stmt-F, Skip, Assign, Call, Block, If, While, Eot, Par, Abort}
-use Rattle.pc_typed.specs.declared.roles.Role.{Role}
 use Rattle.pc_typed.specs.declared.roles.Role.TheVariants.{Calls, Starts}
 use Rattle.pc_typed.specs.declared.typed.Function.{Function}
 use Rattle.pc_typed.specs.Uses.{Use, use_of, joined, expression_uses, expressions_uses, goal_uses, is_taken, statement_step, statement_uses, statements_uses}
 use Rattle.pc_typed.specs.Typing.{Typing}
 use Rattle.pc_typed.specs.Meant.{NamesRoutine, NamesThread, IsMeant}
 use Rattle.pc_meaning.specs.declared.places.Room.{Room}
-use Rattle.pc_meaning.specs.Tree.{Expression, Goal as Target, Statement, Statements, skip, assign, call_of, block, if_so, repeat, loop, eot, par, abort, none, each, Routine}
-use Rattle.pc_meaning.specs.Statements.{no_routine, routine_at}
+use Rattle.pc_meaning.specs.Tree.{Expression, Statement, Statements, skip, assign, call_of, block, if_so, repeat, loop, eot, par, abort, none, each, Routine}
+use Rattle.pc_meaning.specs.Statements.{routine_at}
 use Rattle.pc_meaning.specs.Programs.{rooms_of, place_of, expression_of, target_of, optional, loop_from, or_skip, Numbering, statements_from, statement_of, statements_of, routine_of}
 use Rattle.pc_meaning.specs.Programs as programs
-use Rattle.pc_meaning.specs.Promises.{LiteralFits, AllBelow}
+use Rattle.pc_meaning.specs.Promises.{AllBelow}
 use Rattle.pc_lower.specs.Order.{Listed, AllListed}
 use Rattle.pc_lower.specs.Sound.{Apart, EachApart, ArgumentsApart, Gives, CallFits, Fits, AllFit}
 use Rattle.pc_lower.proofs.Nestings.{LiteralsFit, AllLiteralsFit}

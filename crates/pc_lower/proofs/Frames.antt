@@ -1,6 +1,6 @@
 -- What the grammar promises of each item: a function has a result exactly where it gives one, and its expressions are nested as
 -- the grammar nests them.
-use Rattle.std.proofs.Common.{◌≡◌, ℕ, Bool, true, false, List, [], ◌∷◌, ◌++◌, map, Option, Some, None, refl, sym, ap, ◌∙◌}
+use Rattle.std.proofs.Common.{◌≡◌, ℕ, Bool, List, [], ◌∷◌, ◌++◌, Option, refl}
 use Rattle.std.specs.Prelude.{is_some}
 use Rattle.pc_lex.specs.declared.tokens.Token.{Token}
 use Rattle.pc_ast.specs.declared.expressions.Word.{Word}
@@ -9,11 +9,9 @@ use Rattle.pc_ast.specs.declared.statements.Stmt.{Stmt}
 use Rattle.pc_ast.specs.declared.programs.CellKind.{CellKind}
 use Rattle.pc_ast.specs.declared.programs.Item.{Item}
 use Rattle.pc_ast.specs.declared.programs.Item.TheVariants.{Scalar, Array, Function as FunctionItem}
-use Rattle.pc_grammar.specs.declared.frames.Frame.{Frame}
-use Rattle.pc_grammar.specs.Frames.{SpellsParameter, SpellsParameters, SpellsLocal, bare, valued, SpellsLocals, none as no_locals, more as more_locals, SpellsFrame, framed}
+use Rattle.pc_grammar.specs.Frames.{bare, valued, SpellsLocals, none as no_locals, more as more_locals, framed}
 use Rattle.pc_grammar.specs.Items.{SpellsReactive, reactive, SpellsFunction, function, SpellsNamedItem, plain, started, array, giving, SpellsItem, input, output, named, routine}
 use Rattle.pc_grammar.specs.Programs.{IsProgram, none as no_items, more as more_items}
-use Rattle.pc_typed.specs.Places.{names_of}
 use Rattle.pc_typed.specs.Typing.{cell_number, numbered_value, typed_locals}
 use Rattle.pc_meaning.specs.declared.places.Room.{Room}
 use Rattle.pc_meaning.specs.Programs.{Numbering, optional, locals_of}

@@ -19,3 +19,6 @@ pub mod Promised
 pub mod Few
 pub mod Weighed
 pub mod Lasting
+pub mod Marked
+pub mod Trees
+pub mod Lowers

@@ -1,34 +1,26 @@
 -- The statements that tokens spell, with places for names: their expressions are nested as the grammar nests them, and the
 -- numbers that are tests of loops have 32 bits.
-use Rattle.std.proofs.Common.{◌≡◌, ℕ, zero, suc, ◌+◌, ◌<◌, ◌≤◌, ◌^◌, Bool, true, false, List, [], ◌∷◌, ◌++◌, map, Option, Some, None, refl, sym, ap, subst, ◌∙◌, arith}
-use Rattle.std.specs.Prelude.{is_some}
-use Rattle.pt_base.specs.declared.operators.UnOp.{UnOp}
+use Rattle.std.proofs.Common.{◌≡◌, ℕ, suc, ◌+◌, ◌≤◌, Bool, true, false, List, [], ◌∷◌, ◌++◌, map, Option, refl, sym, subst, arith}
 use Rattle.pt_base.specs.declared.operators.BinOp.{BinOp}
-use Rattle.pt_base.specs.declared.limits.TheConstants.{MOST_EXPRESSION_LEVELS, MOST_STATEMENT_LEVELS}
+use Rattle.pt_base.specs.declared.limits.TheConstants.{MOST_EXPRESSION_LEVELS}
 use Rattle.pc_lex.specs.declared.tokens.Token.{Token}
 use Rattle.pc_ast.specs.declared.expressions.Word.{Word}
 use Rattle.pc_ast.specs.declared.expressions.Expr.{Expr}
-use Rattle.pc_ast.specs.declared.expressions.Expr.TheVariants.{Number, Var, Elem, Unary, Chain}
 use Rattle.pc_ast.specs.declared.expressions.Goal.{Goal}
-use Rattle.pc_ast.specs.declared.expressions.Goal.TheVariants.{Nothing, Var as GoalVar, Elem as GoalElem}
+use Rattle.pc_ast.specs.declared.expressions.Goal.TheVariants.{Nothing}
 use Rattle.pc_ast.specs.declared.statements.Stmt.{Stmt}
-use Rattle.pc_ast.specs.declared.statements.Stmt.TheVariants.{Skip, Assign, Call, Block, If, While, Eot, Par, Abort}
-use Rattle.pc_ast.specs.declared.programs.Item.{Item}
-use Rattle.pc_ast.specs.declared.programs.Item.TheVariants.{Scalar, Array, Function as FunctionItem}
 use Rattle.pc_grammar.specs.declared.marks.Pair.{Pair}
-use Rattle.pc_grammar.specs.declared.marks.TheConstants.{LEVELS}
-use Rattle.pc_grammar.specs.declared.frames.Frame.{Frame}
 use Rattle.pc_grammar.specs.Expressions.{word_at, grown, SpellsOperand, number as spells_number, name as spells_name, element as spells_element, unary as spells_unary, inside, SpellsBetween, between, SpellsLevel, operand as spells_operand, chain as spells_chain, SpellsRest, none as no_rest, more as more_rest, IsExpression}
 use Rattle.pc_grammar.specs.Lists.{SpellsMore, none as no_more, more as more_of, SpellsList, list, SpellsListed, listed, SpellsArguments, no_arguments, some_arguments}
 use Rattle.pc_grammar.specs.Settings.{SpellsSetting, value, call, SpellsLoop, free, counted, SpellsTest, test as spells_test}
 use Rattle.pc_grammar.specs.Simple.{SpellsNamed, variable, element as spells_target, routine as spells_routine, SpellsSimple, skip as spells_skip, named as spells_named, eot as spells_eot, par as spells_par}
 use Rattle.pc_grammar.specs.Statements.{SpellsStmt, simple, block as spells_block, if_open, if_else, while, abort as spells_abort, weak_abort, SpellsAborted, aborted, SpellsParts, none as no_parts, more as more_parts, IsBody}
-use Rattle.pc_typed.specs.Typing.{numbered, numbered_goal, numbered_statement}
+use Rattle.pc_typed.specs.Typing.{numbered, numbered_goal}
 use Rattle.pc_meaning.specs.declared.places.Room.{Room}
-use Rattle.pc_meaning.specs.Tree.{Expression, Operands, number, cell, element, unary, chain, Statement, Statements, skip, assign, call_of, eot, par, block, if_so, repeat, loop, abort, none, each}
-use Rattle.pc_meaning.specs.Programs.{room_at, operands_of, expression_of, target_of, loop_from, Numbering, statement_of, statements_of}
+use Rattle.pc_meaning.specs.Tree.{Expression, Statement, Statements, skip, assign, call_of, eot, par, block, if_so, repeat, loop, abort, none, each}
+use Rattle.pc_meaning.specs.Programs.{operands_of, expression_of, target_of, loop_from, Numbering}
 use Rattle.pc_meaning.specs.Promises.{LiteralFits}
-use Rattle.pc_lower.specs.Counts.{Nested, nested_number, nested_cell, nested_element, nested_unary, nested_chain, nested_in, AllNested, nested_alone, nested_operand, GoalNested, EachNested, SomeNested, StatementNested, StatementsNested}
+use Rattle.pc_lower.specs.Counts.{Nested, nested_number, nested_cell, nested_element, nested_unary, nested_chain, nested_in, AllNested, nested_alone, nested_operand, GoalNested, EachNested, StatementNested, StatementsNested}
 use Rattle.pc_lower.proofs.Placed.{placed, placed-Number, placed-Var, placed-Elem, placed-Unary, numbered_operands, placed-Chain, placed_statement, placed_statements, placed-Skip, placed-Assign, placed-Call, placed-Eot, placed-Par, placed-Block, placed-If, placed-If_else, placed-While, placed-Abort}
 use Rattle.pc_lower.proofs.Spelled.{Small, small_left, small_right}
 

@@ -1,10 +1,9 @@
 -- Aborts are numbered in the order of the text: their spans rise, and a number counts the spans that begin earlier.
-use Rattle.std.proofs.Common.{◌≡◌, ℕ, zero, suc, ◌+◌, ◌<◌, ◌≤◌, Bool, true, false, cond, List, [], ◌∷◌, ◌++◌, map, length, Option, Some, None, refl, sym, ap, subst, ◌∙◌, append_assoc, append-nil, length-append, arith}
+use Rattle.std.proofs.Common.{◌≡◌, ℕ, suc, ◌+◌, ◌<◌, ◌≤◌, Bool, true, false, List, [], ◌∷◌, ◌++◌, map, length, Option, Some, None, refl, sym, ap, subst, ◌∙◌, append_assoc, append-nil, length-append, arith}
 use Rattle.std.specs.Prelude.{nat_lt, if◌then◌else◌}
 use Rattle.std.proofs.lemmas.Bool.Decides.{Decides-ltb}
 use Rattle.pt_base.specs.declared.rules.Span.{Span}
 use Rattle.pc_ast.specs.declared.expressions.Word.{Word}
-use Rattle.pc_ast.specs.declared.expressions.Expr.{Expr}
 use Rattle.pc_ast.specs.declared.statements.Stmt.{Stmt}
 use Rattle.pc_ast.specs.declared.statements.Stmt.TheFolds.{fold-roll-Stmt, ind-Stmt, map-Stmt}
 use Rattle.pc_ast.specs.declared.statements.Stmt.TheViews.{roll-Stmt}
@@ -16,11 +15,11 @@ use Rattle.pc_grammar.specs.Spans as spans
 use Rattle.pc_grammar.specs.Spans.{expression_spans, goal_spans, statement_spans_of, statement_spans, Rises}
 use Rattle.pc_typed.specs.declared.typed.Function.{Function}
 use Rattle.pc_typed.specs.Places.{names_of}
-use Rattle.pc_typed.specs.Typing.{cell_number, function_number, numbered, numbered_goal, numbered_statement_step, numbered_statement, typed_item, typed_from}
+use Rattle.pc_typed.specs.Typing.{cell_number, function_number, numbered, numbered_goal, numbered_statement_step, numbered_statement, typed_from}
 use Rattle.pc_meaning.specs.declared.places.Room.{Room}
 use Rattle.pc_meaning.specs.Tree.{Expression, Statement, Statements, block, if_so, none, each, Routine}
-use Rattle.pc_meaning.specs.Programs.{joined, aborts_step, spans_of, number_of, expression_of, or_skip, loop_from, Numbering, statement_step, statement_of, statements_from, statements_of, routine_of}
-use Rattle.pc_lower.specs.Aborts.{aborts_in, aborts_in_all, aborts_of}
+use Rattle.pc_meaning.specs.Programs.{joined, aborts_step, spans_of, number_of, expression_of, loop_from, Numbering, statement_step, statement_of, statements_from, statements_of, routine_of}
+use Rattle.pc_lower.specs.Aborts.{aborts_in, aborts_in_all}
 use Rattle.pc_lower.specs.Order.{InOrder, AllInOrder, RoutinesInOrder}
 
 -- ---- spans that rise, and their numbers

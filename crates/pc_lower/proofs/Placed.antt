@@ -1,5 +1,5 @@
 -- A tree of the grammar with places for names: first each name gets its number, then each number its place.
-use Rattle.std.proofs.Common.{◌≡◌, ℕ, Bool, List, [], ◌∷◌, map, Option, Some, None, refl, sym, ap, ◌∙◌}
+use Rattle.std.proofs.Common.{◌≡◌, ℕ, Bool, List, map, Option, Some, None, sym, ap, ◌∙◌}
 use Rattle.pt_base.specs.declared.rules.Span.{Span}
 use Rattle.pt_base.specs.declared.operators.UnOp.{UnOp}
 use Rattle.pt_base.specs.declared.operators.BinOp.{BinOp}

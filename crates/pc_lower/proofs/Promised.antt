@@ -1,5 +1,5 @@
 -- What a program with numbers for names keeps is all that lowering asks.
-use Rattle.std.proofs.Common.{◌≡◌, ℕ, zero, suc, ◌+◌, ◌<◌, ◌≤◌, Bool, true, false, ◌||◌, List, [], ◌∷◌, ◌++◌, map, length, Option, Some, None, refl, sym, ap, subst, ◌∙◌, append_assoc, append-nil, length-append, arith}
+use Rattle.std.proofs.Common.{◌≡◌, ℕ, zero, suc, ◌+◌, ◌<◌, ◌≤◌, Bool, true, false, ◌||◌, List, [], ◌∷◌, ◌++◌, map, length, Option, Some, None, refl, sym, ap, subst, ◌∙◌, append_assoc, length-append, arith}
 use Rattle.std.specs.Prelude.{Contains, slice_get, is_some, nat_eq}
 use Rattle.std.specs.List.{list_any}
 use Rattle.std.proofs.lemmas.List.{length-map}
@@ -16,28 +16,27 @@ use Rattle.pc_grammar.specs.Spans.{Rises}
 use Rattle.pc_grammar.proofs.ItemSpans.{rise}
 use Rattle.pc_typed.specs.declared.typed.Cell.{Cell}
 use Rattle.pc_typed.specs.declared.typed.Function.{Function}
-use Rattle.pc_typed.specs.Uses.{Use, joined, value_uses, statements_uses, expression_uses, holds_pause}
-use Rattle.pc_typed.specs.Places.{names_of, is_thread}
+use Rattle.pc_typed.specs.Uses.{Use, joined, value_uses, statements_uses, holds_pause}
+use Rattle.pc_typed.specs.Places.{names_of}
 use Rattle.pc_typed.specs.Breaking.{Breaks}
-use Rattle.pc_typed.specs.Typing.{Typing, item_cells, cells_of, functions_in, cell_number, function_number, numbered_value, numbered_statement, typed_locals, typed_item, typed_from, typing_of}
+use Rattle.pc_typed.specs.Typing.{Typing, item_cells, cells_of, functions_in, cell_number, function_number, numbered_value, typed_item, typed_from, typing_of}
 use Rattle.pc_typed.specs.Keeping.{IsTyped}
-use Rattle.pc_typed.specs.Meant.{function_uses, is_item_kind, is_array_kind, own_cells, IsNear, item, own, NamesCell, IsMeant, MeansWell}
+use Rattle.pc_typed.specs.Meant.{is_item_kind, own_cells, IsNear, item, own, NamesCell, IsMeant, MeansWell}
 use Rattle.pc_typed.proofs.Cuts.{contains_get, get_seam}
-use Rattle.pc_typed.proofs.Standing.{Declared, declared}
+use Rattle.pc_typed.proofs.Standing.{declared}
 use Rattle.pc_typed.proofs.Scalars.{means_well}
 use Rattle.pc_meaning.specs.declared.places.Room.{Room}
-use Rattle.pc_meaning.specs.Tree.{Expression, Statements, Routine, Program}
-use Rattle.pc_meaning.specs.Programs.{rooms_of, room_at, place_of, spans_of, aborts_step, Numbering, numbering_of, expression_of, statement_of, statements_of, optional, locals_of, routine_of, program_of}
-use Rattle.pc_meaning.specs.Promises.{some_pauses, pauses}
+use Rattle.pc_meaning.specs.Programs.{rooms_of, room_at, place_of, spans_of, aborts_step, Numbering, numbering_of, statements_of, optional, routine_of, program_of}
+use Rattle.pc_meaning.specs.Promises.{some_pauses}
 use Rattle.pc_meaning.proofs.Bridge.{same_pause}
 use Rattle.pc_lower.specs.Aborts.{aborts_of}
-use Rattle.pc_lower.specs.Order.{RoutinesInOrder, RoutinesListed, AllListed}
-use Rattle.pc_lower.specs.Sound.{Apart, Tidy, RoutineFits, RoutinesFit, ProgramFits}
+use Rattle.pc_lower.specs.Order.{RoutinesListed, AllListed}
+use Rattle.pc_lower.specs.Sound.{Tidy, RoutineFits, RoutinesFit, ProgramFits}
 use Rattle.pc_lower.specs.Counts.{RoutineNested, RoutinesNested}
 use Rattle.pc_lower.proofs.Listing.{in_order_listed}
-use Rattle.pc_lower.proofs.Spelled.{Small, cut_small}
+use Rattle.pc_lower.proofs.Spelled.{cut_small}
 use Rattle.pc_lower.proofs.Nestings.{AllLiteralsFit}
-use Rattle.pc_lower.proofs.Frames.{FunctionKept, ItemKept, EachKept, each_at, items_kept}
+use Rattle.pc_lower.proofs.Frames.{FunctionKept, EachKept, each_at, items_kept}
 use Rattle.pc_lower.proofs.Apart.{room_size, words_apart, plain_size, own_low, ParameterCell, parameter_cell, functions_rise, expression_apart}
 use Rattle.pc_lower.proofs.Ordered.{among_rise, program_in, routines_ordered}
 use Rattle.pc_lower.proofs.Fitting.{Callable, all_fit, body_fits}

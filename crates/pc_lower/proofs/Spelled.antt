@@ -1,21 +1,19 @@
 -- What the grammar promises of the trees of a program: its expressions are nested as it nests them, and its numbers have 32 bits.
 use Rattle.std.proofs.Common.{◌≡◌, ℕ, zero, suc, ◌+◌, ◌<◌, ◌≤◌, ◌^◌, Bool, true, false, cond, ◌&&◌, ◌||◌, List, [], ◌∷◌, ◌++◌, map, drop, length, Option, Some, None, refl, sym, ap, subst, ◌∙◌, arith}
-use Rattle.std.specs.Prelude.{nat_lt, nat_eq, not, find, is_some}
+use Rattle.std.specs.Prelude.{nat_lt, nat_eq, not, find}
 use Rattle.std.specs.List.{list_all}
 use lib.Pointwise.{pointwise}
 use Rattle.std.proofs.lemmas.Bool.Decides.{Decides-ltb}
 use Rattle.pt_base.specs.Bytes.{is_digit}
-use Rattle.pt_base.specs.declared.operators.UnOp.{UnOp}
-use Rattle.pt_base.specs.declared.operators.BinOp.{BinOp}
-use Rattle.pt_base.specs.declared.rules.Rule.TheVariants.{L1, L2, L3}
+use Rattle.pt_base.specs.declared.rules.Rule.TheVariants.{L2}
 use Rattle.pc_lex.specs.declared.tokens.Sort.{Sort}
 use Rattle.pc_lex.specs.declared.tokens.Sort.TheVariants.{Name, Number as NumberSort}
 use Rattle.pc_lex.specs.declared.tokens.Token.{Token}
 use Rattle.pc_lex.specs.declared.fronts.Front.{Front}
-use Rattle.pc_lex.specs.declared.fronts.Front.TheVariants.{Blank, Piece, Fault}
+use Rattle.pc_lex.specs.declared.fronts.Front.TheVariants.{Piece, Fault}
 use Rattle.pc_lex.specs.Spelling.{spelling_of, keywords, signs}
 use Rattle.pc_lex.specs.Numbers.{is_word, number_of}
-use Rattle.pc_lex.specs.Lexing.{is_white, run_of, line_of, begins, closed_in, number_front, keyword_or_name, word_sort, run_front, sign_front, sign_of, comment_front, front_of, CutEnd, whole, Lexes, done, blank, piece, fault}
+use Rattle.pc_lex.specs.Lexing.{is_white, run_of, begins, closed_in, number_front, keyword_or_name, word_sort, run_front, sign_front, sign_of, comment_front, front_of, CutEnd, Lexes, done, blank, piece, fault}
 use Rattle.pc_lex.proofs.Found.{found_among}
 
 -- ---- tokens that are numbers

@@ -13,10 +13,10 @@ use Rattle.pc_ast.specs.declared.programs.Item.{Item}
 use Rattle.pc_ast.specs.declared.programs.Item.TheVariants.{Scalar, Array, Function as FunctionItem}
 use Rattle.pc_typed.specs.declared.roles.Role.{Role}
 use Rattle.pc_typed.specs.declared.roles.Role.TheVariants.{Reads, ReadsElement, Writes, WritesElement, Calls, Starts}
-use Rattle.pc_typed.specs.Places.{Place, places, item_places, Found, Unknown, Own, Known, found, found_among, word_of, same_text, is_among, has_name, names_of, is_start, starts, is_main, is_thread}
+use Rattle.pc_typed.specs.Places.{Place, places, item_places, Found, Own, Known, found, found_among, word_of, same_text, is_among, has_name, is_start, starts, is_main, is_thread}
 use Rattle.pc_typed.specs.Breaking.{Breaks, item_twice, unknown, wrong_kind, no_main, is_wrong, is_main_item}
-use Rattle.pc_typed.proofs.Cuts.{left_true, right_true, is_false, any_contains, Cut, cut_found, Any, cut_any}
-use Rattle.pc_typed.proofs.Standing.{Stands, place_stands, PlacedIn, placed_in}
+use Rattle.pc_typed.proofs.Cuts.{left_true, right_true, is_false, any_contains, cut_found, cut_any}
+use Rattle.pc_typed.proofs.Standing.{place_stands, placed_in}
 
 same_bytes : (a b : Word) → same_text a b ≡ true → a.text ≡ b.text
 same_bytes a b e = (bytes_eq-Decides a.text b.text).0 e

@@ -5,3 +5,4 @@ pub mod Laws
 pub mod Order
 pub mod Counts
 pub mod Loops
+pub mod Marks

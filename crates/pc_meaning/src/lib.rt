@@ -23,5 +23,7 @@ pub use laws::{
     a_function_does_its_body, a_routine_never_pauses, a_tree_finishes_alike, a_tree_pauses_alike,
     more_functions_change_nothing, what_cannot_finish_pauses,
 };
+pub use layout::{declared, places as ports, rooms};
 pub use places::Room;
 pub use state::{Meaning, meaning_of};
+pub use values::room;

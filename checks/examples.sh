@@ -27,8 +27,6 @@ expect 2 wanted "no word"
 line "usage"; "$program" go "$first" "$first" </dev/null >out; status=$?
 expect 2 wanted "equal names"
 printf 'void main() {\n  while (1)\n    EOT;\n}\n' >loop.pc
-line "not built"; "$program" go loop.pc im2 </dev/null >out; status=$?
-expect 12 wanted "a program that isn't small"; [ -e im2 ] && wrong "not small: an image is stored"
 printf 'void main() { EOT' >cut.pc
 line "refused S1 17 17"; "$program" go cut.pc im2 </dev/null >out; status=$?
 expect 1 wanted "a program that is cut short"; [ -e im2 ] && wrong "refused: an image is stored"
@@ -40,8 +38,6 @@ expect 0 wanted "the counts of a program"
 alarm="$top/examples/whole/alarm.pc"
 line "accepted threads 3 words 4 weight 124 single 124"; "$program" rules "$alarm" </dev/null >out; status=$?
 expect 0 wanted "the counts of threads and an abort"
-line "not built"; "$program" go "$alarm" im2 </dev/null >out; status=$?
-expect 12 wanted "threads and an abort"; [ -e im2 ] && wrong "threads and an abort: an image is stored"
 "$program" print "$alarm" </dev/null >out; status=$?
 expect 0 "$alarm" "the text of threads and an abort"
 printf 'int x = 0;\nvoid main() { while (1) { x = 1; } }' >spin.pc

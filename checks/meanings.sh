@@ -1,13 +1,20 @@
 #!/usr/bin/env bash
-# The command `mean` of the built program: the examples of the whole language, programs with outputs worked out by hand,
-# generated programs, and long and bad traces. Nothing is stored.
+# The commands `mean` and `go` of the built program, which tell the same outputs: the examples of the whole language, programs
+# with outputs worked out by hand, generated programs, and long and bad traces. Nothing is stored but the image of `go`.
 set -u
 . "$(dirname "${BASH_SOURCE[0]}")/common/program.bash"
 
+# goes SOURCE TRACE REPORT NAME: the ticks of the compiled program have the outputs of this report
+goes() {
+  "$program" go "$1" im <"$2" >ticks; status=$?
+  sed -E 's/ cycles [0-9]+$//; s/^(ticks [0-9]+) worst [0-9]+$/\1/' ticks >out
+  expect 0 "$3" "go $4"
+}
 for source in "$top"/examples/whole/*.pc; do
   name="$(basename "$source" .pc)"
   "$program" mean "$source" <"$top/examples/whole/$name.trace" >out; status=$?
   expect 0 "$top/examples/whole/$name.meaning" "mean $name"
+  goes "$source" "$top/examples/whole/$name.trace" "$top/examples/whole/$name.meaning" "$name"
 done
 
 # due OUTPUTS..: the lines of ticks with these outputs, and the last line
@@ -28,6 +35,7 @@ row() {
   printf "$trace" >trace
   "$program" mean row.pc <trace >out; status=$?
   expect 0 wanted "$name"
+  goes row.pc trace wanted "$name"
 }
 io='ReactiveInput int a = 0; ReactiveOutput int o = 0;'
 row "threads that share a variable" '\n\n\n' '0 1' '2 1' '2 1' <<'PROGRAM'
@@ -106,7 +114,9 @@ for n in 1 5 62; do
   [ "$status" = 0 ] || wrong "mean of gen $n: status $status"
   [ "$(awk '/^tick /{ sum += $3 } END { print sum }' out)" = $((16500 * n * (n + 1) / 2)) ] || wrong "mean of gen $n: another sum"
   [ "$(tail -1 out)" = "ticks 1000" ] || wrong "mean of gen $n: another last line"
+  cp out wanted
+  goes gen.pc trace wanted "gen $n"
 done
-[ "$(ls | tr '\n' ' ')" = "gen.pc none.pc out row.pc trace wanted " ] || wrong "mean: it stored a file"
+[ "$(ls | tr '\n' ' ')" = "gen.pc im none.pc out row.pc ticks trace wanted " ] || wrong "mean: it stored a file"
 [ "$failed" = 0 ] && echo "meanings: all as they must be"
 exit "$failed"

@@ -1,4 +1,2 @@
 pub mod Phases
-pub mod PlainWords
-pub mod PlainTicks
 pub mod Listings

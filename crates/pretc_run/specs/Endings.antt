@@ -21,7 +21,6 @@ number_of (end.BadCert number) = 8
 number_of (end.NotAccepted condition at level needed given) = 9
 number_of (end.Trapped at tick) = 10
 number_of end.StoreFault = 11
-number_of end.NotBuilt = 12
 number_of end.NoFile = 17
 
 -- the status of a call whose sink failed
@@ -43,5 +42,4 @@ line_of (end.BadCert number) = cert_line number
 line_of (end.NotAccepted condition at level needed given) = no_line condition at level needed given
 line_of (end.Trapped at tick) = trap_line at tick
 line_of end.StoreFault = codes "store fault\n"
-line_of end.NotBuilt = codes "not built\n"
 line_of end.NoFile = codes "no file\n"

@@ -55,7 +55,6 @@ pub enum Ending {
         tick: u64,
     },
     StoreFault,
-    NotBuilt,
     NoFile,
 }
 
@@ -81,7 +80,6 @@ impl Ending {
             Ending::NotAccepted { .. } => 9,
             Ending::Trapped { .. } => 10,
             Ending::StoreFault => 11,
-            Ending::NotBuilt => 12,
             Ending::NoFile => 17,
         }
     }
@@ -111,7 +109,6 @@ impl Ending {
             Ending::ReadFault => line = LineBuffer::of(b"read fault\n"),
             Ending::WantOfMemory => line = LineBuffer::of(b"want of memory\n"),
             Ending::StoreFault => line = LineBuffer::of(b"store fault\n"),
-            Ending::NotBuilt => line = LineBuffer::of(b"not built\n"),
             Ending::NoFile => line = LineBuffer::of(b"no file\n"),
         }
         line

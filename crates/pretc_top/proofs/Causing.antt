@@ -9,7 +9,7 @@ use Rattle.pt_outside.specs.Told.{ShelfTold}
 use Rattle.pc_verdict.specs.Sources as source
 use Rattle.pc_verdict.specs.Verdicts.{BreaksFirst}
 use Rattle.pretc_run.specs.declared.endings.Ending.{Ending}
-use Rattle.pretc_run.specs.declared.endings.Ending.TheVariants.{Done, Refused, Usage, ReadFault, WantOfMemory, BadImage, BadCert, BadCosts, BadCost, NotAccepted, StoreFault, NotBuilt, NoFile}
+use Rattle.pretc_run.specs.declared.endings.Ending.TheVariants.{Done, Refused, Usage, ReadFault, WantOfMemory, BadImage, BadCert, BadCosts, BadCost, NotAccepted, StoreFault, NoFile}
 use Rattle.pretc_run.specs.Endings.{number_of, line_of}
 use Rattle.pretc_top.specs.declared.commands.Command.{Command}
 use Rattle.pretc_top.specs.declared.commands.Command.TheVariants.{Go, Check, Print, Rules, Mean, Gen, Exec}
@@ -22,7 +22,7 @@ use Rattle.pretc_top.proofs.Shelves.{same_shelf}
 use Rattle.pretc_top.specs.Check.{CheckEnds, not_loaded, judged, LoadsFail, no_image, no_cert, no_costs, Judged, not_read, decided, Unread, image_fails, cert_fails, costs_fail, ImageFails, bad_image, image_memory, CertFails, bad_cert, cert_memory, CostsRead, CostsFail, no_document, missing_class, wrong_cost, unknown_key, costs_memory, CostsHeld, table_held, Decided, accepted, not_accepted, AreLoaded, AreRead, refusal_of, image_most, cert_most, costs_most, unit_word}
 use Rattle.pretc_top.specs.Exec.{Unapproved, not_in_form, unaccepted, ExecUnready, exec_not_loaded, exec_unapproved, exec_memory}
 use Rattle.mb_isa.specs.declared.costs.Class.{Class}
-use Rattle.pretc_top.specs.Go.{IsBuilt, IsMade, IsFailedStore, BuildFails, unread, not_small, StoreFails, store_fault, store_memory, IsUnready, unbuilt, unstored, unloaded}
+use Rattle.pretc_top.specs.Go.{IsBuilt, IsMade, IsFailedStore, StoreFails, store_fault, store_memory, IsUnready, unbuilt, unstored, unloaded}
 use Rattle.pretc_top.specs.Comes.{Ends, no_command, go_ends, check_ends, print_ends, rules_ends, mean_ends, exec_ends, gen_ends}
 use Rattle.pretc_top.specs.Causes.{BreaksRule, IsRefusedBy, go_refused, print_refused, rules_refused, mean_refused, LacksFile, go_lacks, check_lacks, check_lacks_cert, check_lacks_costs, print_lacks, rules_lacks, mean_lacks, exec_lacks, exec_lacks_cert, exec_lacks_costs, BoundHolds, CostsRefused, check_refuses_costs, exec_refuses_costs}
 
@@ -46,7 +46,6 @@ pub data Cause (old new : Outside) : Option (Command (List ℕ)) → List (List 
   by_demand : (command : Option (Command (List ℕ))) (due : List (List ℕ)) (d : Demand) → IsAsBefore old.shelf new.shelf → Cause old new command due (refusal_of d)
   by_store : (program name : List ℕ) (image : Parts) → IsBuilt program image old.shelf.files → IsFailedStore name (text_of image) old.shelf new.shelf →
       Cause old new (Some (Go program name)) (line_of StoreFault ∷ []) StoreFault
-  by_form : (command : Option (Command (List ℕ))) → IsAsBefore old.shelf new.shelf → Cause old new command (line_of NotBuilt ∷ []) NotBuilt
   by_absence : (command : Option (Command (List ℕ))) → LacksFile old.shelf.files command → IsAsBefore old.shelf new.shelf →
       Cause old new command (line_of NoFile ∷ []) NoFile
 
@@ -74,13 +73,9 @@ module _ (old new : Outside) (command : Option (Command (List ℕ))) where
   of_saying B D program _ _ lacks breaks holds (unsaid e f) = of_program B program e lacks breaks f
 
 module _ (old new : Outside) where
-  of_build : (program name : List ℕ) (e : Ending) → BuildFails program old.shelf new.shelf e → Cause old new (Some (Go program name)) (line_of e ∷ []) e
-  of_build program name _ (unread e f) =
-      of_program old new (Some (Go program name)) BreaksFirst program e (go_lacks program name) (go_refused program name) f
-  of_build program name _ (not_small n k) = by_form (Some (Go program name)) k
-
   of_go : (program name : List ℕ) (e : Ending) → IsUnready program name old.shelf new.shelf e → Cause old new (Some (Go program name)) (line_of e ∷ []) e
-  of_go program name _ (unbuilt e f) = of_build program name e f
+  of_go program name _ (unbuilt e f) =
+      of_program old new (Some (Go program name)) BreaksFirst program e (go_lacks program name) (go_refused program name) f
   of_go program name _ (unstored _ image b (store_fault f)) = by_store program name image b f
   of_go program name _ (unstored _ image b (store_memory k)) = by_memory (Some (Go program name)) k
   of_go program name _ (unloaded image m) = by_stored program name image m

@@ -6,7 +6,7 @@ use Rattle.mb_step.specs.Run.{Ticked, Ends, Trapped}
 use Rattle.pc_meaning.specs.Tree.{Program}
 use Rattle.pc_meaning.specs.Runs.{Moment, outputs_at}
 use Rattle.pretc_run.specs.Told.{told, AllEnded}
-use Rattle.pc_compile.specs.Faithful.{EachMeans}
+use Rattle.pc_flows.specs.Meant.{EachMeans}
 
 pub each_ended : (p : Program) (image : Parts) (ms : List Moment) (os : List Ticked) → EachMeans p image ms os → AllEnded os
 each_ended p image [] [] h = tt

@@ -1,7 +1,8 @@
 -- A ready machine reports what the program means.
-use Rattle.std.proofs.Common.{◌≡◌, ◌≢◌, ◌≤◌, ◌<◌, ℕ, ℤ, List, [], ◌∷◌, ◌++◌, length, Option, Some, All, refl, sym, ap, subst, ◌∙◌, arith}
+use Rattle.std.proofs.Common.{◌≡◌, ◌≢◌, ◌≤◌, ◌<◌, ℕ, ℤ, List, [], ◌∷◌, ◌++◌, length, Option, Some, All, FitsSigned, refl, sym, ap, subst, ◌∙◌, arith}
+use Rattle.std.specs.Int.{w32}
 use Rattle.std.specs.List.{AllByRecursion}
-use Rattle.std.proofs.lemmas.List.Elements.{All-cons, All-nil}
+use Rattle.std.proofs.lemmas.List.Elements.{All-cons, All-nil, All-head, All-tail}
 use Rattle.pt_outside.specs.Told.{ShelfTold, SourceTold}
 use Rattle.pt_outside.specs.Files.{Files}
 use Rattle.mb_isa.specs.Costs.{IsCosts, unit}
@@ -9,17 +10,18 @@ use Rattle.pt_image.specs.declared.image.Parts.{Parts}
 use Rattle.pt_trace.specs.Given.{HasRead}
 use Rattle.mb_core.specs.Machine.{Whole, fresh}
 use Rattle.mb_step.specs.Run.{run_of}
-use Rattle.pc_grammar.specs.Trees as grammar
+use Rattle.pc_typed.specs.Typing.{Typing}
 use Rattle.pc_meaning.specs.Tree.{Program}
+use Rattle.pc_meaning.specs.Programs.{program_of}
 use Rattle.pc_meaning.specs.Runs.{before_ticks, moments_from}
-use Rattle.pc_compile.specs.Compiled.{program}
 use Rattle.pretc_run.specs.declared.endings.Ending.{Ending}
 use Rattle.pretc_run.specs.Endings.{number_of}
 use Rattle.pretc_run.specs.Told.{AllEnded}
 use Rattle.pretc_run.specs.Running.{RunEnds, run_done, run_bad, run_fault, run_trapped}
 use Rattle.pretc_run.specs.Reporting.{ReportComes, report_ends, report_breaks}
 use Rattle.pretc_top.specs.declared.commands.Command.TheVariants.{Go}
-use Rattle.pc_compile.specs.Faithful.{IsRow, EachMeans}
+use Rattle.pc_region.specs.Runs.{IsRow}
+use Rattle.pc_flows.specs.Meant.{EachMeans}
 use Rattle.pretc_top.specs.Outside.{Outside}
 use Rattle.pretc_top.specs.Go.{cycles_most, IsBuilt, IsMade, IsReady, ShowsMeaning, go_lines}
 use Rattle.pretc_top.specs.Comes.{Comes, ran, broke, go_ran, go_broke}
@@ -41,36 +43,42 @@ read_rows width before after rows h =
     let P : List (List ℤ) → Type 0 = λ l. All (IsWordRow width) l in
     subst P (ap (λ r. r.rows) h.gave) (rows_fit_from width 1 h.lines)
 
-are_rows : (p : Program) (image : Parts) (rows : List (List ℤ)) → image.inputs ≡ p.inputs → All (IsWordRow (length image.inputs)) rows → All (IsRow p) rows
-are_rows p image rows e h = λ k d lt. ((h k d lt).0 ∙ ap length e, (h k d lt).1)
+each_of : {A : Type 0} (P : A → Type 0) (xs : List A) → All P xs → AllByRecursion P xs
+each_of P [] h = tt
+each_of P (x ∷ xs) h = (All-head P x xs h, each_of P xs (All-tail P x xs h))
+
+are_rows : (width : ℕ) (rows : List (List ℤ)) → All (IsWordRow width) rows → AllByRecursion IsRow rows
+are_rows width [] h = tt
+are_rows width (row ∷ rows) h =
+    (each_of (FitsSigned w32) row (All-head (IsWordRow width) row rows h).1, are_rows width rows (All-tail (IsWordRow width) row rows h))
 
 -- the ticks on the rows that were read do what the program means
 means : (source : List ℕ) (files : Option Files) (image : Parts) (b : IsBuilt source image files) (before after : Option (List ℕ)) (rows : List (List ℤ)) →
     HasRead (length image.inputs) before after rows →
-    EachMeans (program b.tree) image (moments_from (program b.tree) (before_ticks (program b.tree)) rows) (run_of image unit cycles_most rows)
+    EachMeans (program_of b.typing) image (moments_from (program_of b.typing) (before_ticks (program_of b.typing)) rows) (run_of image unit cycles_most rows)
 means source files image b before after rows h =
     b.compiled.faithful unit unit_is_costs cycles_most (omega arith) rows
-    (are_rows (program b.tree) image rows b.compiled.inputs (read_rows (length image.inputs) before after rows h))
+    (are_rows (length image.inputs) rows (read_rows (length image.inputs) before after rows h))
 
 -- what is told of these ticks, and that the run ended otherwise than in a trap
-pub record IsShown (image : Parts) (tree : grammar.Program) (rows : List (List ℤ)) (e : Ending) : Type 0 where
-  pub shown : ShowsMeaning tree image rows
+pub record IsShown (image : Parts) (typing : Typing) (rows : List (List ℤ)) (e : Ending) : Type 0 where
+  pub shown : ShowsMeaning typing image rows
   pub untrapped : number_of e ≢ 10
 
 shown_by : (source : List ℕ) (files : Option Files) (image : Parts) (b : IsBuilt source image files) (before after : Option (List ℕ)) (rows : List (List ℤ)) →
-    HasRead (length image.inputs) before after rows → ShowsMeaning b.tree image rows
+    HasRead (length image.inputs) before after rows → ShowsMeaning b.typing image rows
 shown_by source files image b before after rows h =
-    let p : Program = program b.tree in
+    let p : Program = program_of b.typing in
     each_outputs p image (moments_from p (before_ticks p) rows) (run_of image unit cycles_most rows) (means source files image b before after rows h)
 
 never_traps : (source : List ℕ) (files : Option Files) (image : Parts) (b : IsBuilt source image files) (before after : Option (List ℕ)) (rows : List (List ℤ)) →
     HasRead (length image.inputs) before after rows → AllEnded (run_of image unit cycles_most rows)
 never_traps source files image b before after rows h =
-    let p : Program = program b.tree in
+    let p : Program = program_of b.typing in
     each_ended p image (moments_from p (before_ticks p) rows) (run_of image unit cycles_most rows) (means source files image b before after rows h)
 
 shown : (source : List ℕ) (files : Option Files) (image : Parts) (b : IsBuilt source image files) (before after : SourceTold) (rows : List (List ℤ)) (last : List ℕ) (e : Ending) →
-    RunEnds image unit cycles_most rows before after last e → IsShown image b.tree rows e
+    RunEnds image unit cycles_most rows before after last e → IsShown image b.typing rows e
 shown source files image b before after rows last e (run_done ticked whole stays) =
     record { shown = shown_by source files image b before.left after.left rows ticked.read; untrapped = λ h. omega (arith, h) }
 shown source files image b before after rows last e (run_bad rule line ticked bad stays) =

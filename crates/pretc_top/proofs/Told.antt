@@ -26,7 +26,7 @@ use Rattle.pretc_top.specs.Go.{cycles_most, go_lines, IsMade, GoRan, GoBroke}
 use Rattle.pretc_top.specs.Comes.{Ends, no_command, go_ends, check_ends, print_ends, rules_ends, mean_ends, exec_ends, gen_ends, Ran, go_ran, exec_ran, mean_ran, Broke, go_broke, exec_broke, mean_broke, Comes, ends, ran, broke}
 use Rattle.pretc_top.specs.Causes.{BoundHolds, CostsRefused, IsRefusedBy, LacksFile, IsSent, Causes}
 use Rattle.pretc_top.specs.Stands.{OnlySaid, GoStopped, AfterReadFault, load_failed, pull_failed, mean_pull_failed, exec_pull_failed, GoPulled, AfterWriteFault, before_the_trace, in_the_report, in_the_meaning, in_the_bound_line, behind_the_bound_line, AfterMemory, memory_before, memory_stored, memory_at_a_tick, AfterBadTrace, go_bad_trace, mean_bad_trace, exec_bad_trace, AfterTrap, exec_trapped, AfterStoreFault, go_store_failed}
-use Rattle.pretc_top.proofs.Causing.{Cause, by_done, by_refusal, by_usage, by_load, by_memory, by_stored, by_image, by_cert, by_costs, by_cost, by_demand, by_store, by_form, by_absence, cause}
+use Rattle.pretc_top.proofs.Causing.{Cause, by_done, by_refusal, by_usage, by_load, by_memory, by_stored, by_image, by_cert, by_costs, by_cost, by_demand, by_store, by_absence, cause}
 
 -- ---- an ending without a run, by the number that is answered
 
@@ -57,7 +57,6 @@ module _ (old new : Outside) where
   shelf_counts _ _ _ (by_cost command due rule class r k) = kept 6 k
   shelf_counts _ _ _ (by_demand command due d k) = kept 9 k
   shelf_counts _ _ _ (by_store program name image b f) = record { load_later = omega (arith, f.load_faults); store_later = f.later; load_kept = λ h. f.load_faults; store_kept = λ h. absurd (h refl) }
-  shelf_counts _ _ _ (by_form command k) = kept 12 k
   shelf_counts _ _ _ (by_absence command l k) = kept 17 k
 
   bound_by : (command : Option (Command (List ℕ))) (due : List (List ℕ)) (e : Ending) → number_of e ≡ 0 → Cause old new command due e → BoundHolds old.shelf.files command

@@ -11,12 +11,11 @@ use Rattle.mb_step.specs.Run.{run_of}
 use Rattle.pc_grammar.specs.Trees.{Program}
 use Rattle.pc_typed.specs.Typing.{Typing}
 use Rattle.pc_verdict.specs.Verdicts.{BreaksFirst}
-use Rattle.pc_small.specs.Program as small
-use Rattle.pc_small.specs.Trees.{IsTreeOf}
+use Rattle.pc_meaning.specs.Programs.{program_of}
 use Rattle.pc_meaning.specs.Runs.{meaning_of}
-use Rattle.pc_compile.specs.Compiled.{Compiles, program as program_of_tree}
+use Rattle.pc_compile.specs.Compiled.{Compiles}
 use Rattle.pretc_run.specs.declared.endings.Ending.{Ending}
-use Rattle.pretc_run.specs.declared.endings.Ending.TheVariants.{WantOfMemory, StoreFault, NotBuilt}
+use Rattle.pretc_run.specs.declared.endings.Ending.TheVariants.{WantOfMemory, StoreFault}
 use Rattle.pretc_run.specs.Endings.{number_of}
 use Rattle.pretc_run.specs.Told.{told}
 use Rattle.pretc_run.specs.Running.{run_lines, RunEnds, RunBreaks}
@@ -32,19 +31,7 @@ pub record IsBuilt (program : List ℕ) (image : Parts) (files : Option Files) :
   pub tree : Program
   pub typing : Typing
   pub taken : IsTaken program files tree typing
-  pub compiled : Compiles tree image
-
--- the program was loaded, keeps every rule and isn't small
-pub record IsNotSmall (program : List ℕ) (files : Option Files) : Type 0 where
-  pub tree : Program
-  pub typing : Typing
-  pub taken : IsTaken program files tree typing
-  pub not_small : (p : small.Program) → IsTreeOf tree.items p → ⊥
-
--- no image was built
-pub data BuildFails (program : List ℕ) (old new : ShelfTold) : Ending → Type 0 where
-  unread : (e : Ending) → ProgramFails BreaksFirst program old new e → BuildFails program old new e
-  not_small : IsNotSmall program old.files → IsAsBefore old new → BuildFails program old new NotBuilt
+  pub compiled : Compiles typing image
 
 -- a text was stored, and nothing else
 pub record IsStored (name text : List ℕ) (old new : ShelfTold) : Type 0 where
@@ -77,9 +64,9 @@ pub record IsReady (program name : List ℕ) (old new : ShelfTold) (machine : Wh
   pub inputs_are : inputs ≡ length image.inputs
   pub outputs_are : outputs ≡ length image.outputs
 
--- no image was built, or it wasn't stored, or no memory was found for the machine
+-- no program was taken, or no memory was found for its image, or that wasn't stored, or no memory was found for the machine
 pub data IsUnready (program name : List ℕ) (old new : ShelfTold) : Ending → Type 0 where
-  unbuilt : (e : Ending) → BuildFails program old new e → IsUnready program name old new e
+  unbuilt : (e : Ending) → ProgramFails BreaksFirst program old new e → IsUnready program name old new e
   unstored : (e : Ending) (image : Parts) → IsBuilt program image old.files → StoreFails name (text_of image) old new e → IsUnready program name old new e
   unloaded : (image : Parts) → IsMade program name image old new → IsUnready program name old new WantOfMemory
 
@@ -88,8 +75,8 @@ abbrev pub go_lines : Parts → List (List ℤ) → List (List ℕ)
 go_lines image rows = run_lines image unit cycles_most rows
 
 -- the outputs of the ticks on these rows are those of the program's meaning
-abbrev pub ShowsMeaning : Program → Parts → List (List ℤ) → Type 0
-ShowsMeaning tree image rows = map (λ (tick : List ℤ × ℕ). tick.0) (told (run_of image unit cycles_most rows)) ≡ meaning_of (program_of_tree tree) rows
+abbrev pub ShowsMeaning : Typing → Parts → List (List ℤ) → Type 0
+ShowsMeaning typing image rows = map (λ (tick : List ℤ × ℕ). tick.0) (told (run_of image unit cycles_most rows)) ≡ meaning_of (program_of typing) rows
 
 -- The image of the program is stored, and ran on the trace to the end of its run, with these lines; no tick trapped.
 pub record GoRan (program name : List ℕ) (old new : Outside) (due : List (List ℕ)) (e : Ending) : Type 0 where
@@ -99,7 +86,7 @@ pub record GoRan (program name : List ℕ) (old new : Outside) (due : List (List
   pub last : List ℕ
   pub ends : RunEnds image unit cycles_most rows old.source new.source last e
   pub due_is : due ≡ go_lines image rows ++ last ∷ []
-  pub shown : ShowsMeaning made.built.tree image rows
+  pub shown : ShowsMeaning made.built.typing image rows
   pub untrapped : number_of e ≢ 10
 
 -- the image of the program is stored, and the report of its run broke off

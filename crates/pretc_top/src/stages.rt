@@ -6,7 +6,7 @@ ghost use Rattle.pc_verdict.specs.Sources.{Breaks};
 ghost use Rattle.pc_verdict.specs.Verdicts.{BreaksFirst};
 ghost use Rattle.pretc_top.specs.Loading.{IsAsBefore, LoadFails, ProgramFails, IsLoaded, IsTaken};
 ghost use Rattle.pretc_top.specs.Refusing as spec;
-ghost use Rattle.pretc_top.specs.Go.{IsBuilt, BuildFails, IsStored, StoreFails};
+ghost use Rattle.pretc_top.specs.Go.{IsBuilt, IsStored, StoreFails};
 
 use pc_compile::compile;
 use pc_grammar::Program;
@@ -90,15 +90,14 @@ pub fn load_accepted<H: Shelf>(
 pub fn load_image<H: Shelf>(alloc: Global, program: &Text, shelf: &mut H) -> Result<Image, Ending>
     ensures built { IfOk result (λ image. IsBuilt program.now image (H.told shelf.old).files) }
     ensures kept { OnOk result (IsAsBefore (H.told shelf.old) (H.told shelf.new)) }
-    ensures failed { IfErr result (λ e. BuildFails program.now (H.told shelf.old) (H.told shelf.new) e) }
+    ensures failed { IfErr result (λ e. ProgramFails BreaksFirst program.now (H.told shelf.old) (H.told shelf.new) e) }
 {
     let accepted = match load_accepted(alloc, program, shelf) {
         Ok(accepted) => accepted,
         Err(ending) => return Err(ending),
     };
-    match compile(alloc, &accepted.program) {
-        Ok(Some(image)) => Ok(image),
-        Ok(None) => Err(Ending::NotBuilt),
+    match compile(alloc, &accepted.typed) {
+        Ok(image) => Ok(image),
         Err(_) => Err(Ending::WantOfMemory),
     }
 }

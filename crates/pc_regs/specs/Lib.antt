@@ -1,0 +1,6 @@
+pub mod Placement
+pub mod Words
+pub mod Represents
+pub mod Writings
+pub mod Counts
+pub mod Laws

@@ -1,0 +1,14 @@
+pub mod Numbers
+pub mod Registers
+pub mod Operating
+pub mod Memory
+pub mod Masking
+pub mod Places
+pub mod Delivering
+pub mod Done
+pub mod Running
+pub mod Counting
+pub mod Works
+pub mod Flat
+pub mod Pushed
+pub mod Enough

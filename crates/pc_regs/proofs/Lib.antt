@@ -11,3 +11,4 @@ pub mod Counting
 pub mod Works
 pub mod Flat
 pub mod Pushed
+pub mod Enough

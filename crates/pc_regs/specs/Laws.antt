@@ -1,5 +1,5 @@
 -- The laws of these words, at the machine's data.
-use Rattle.std.specs.Prelude.{◌≡◌, ◌-◌, ◌≤◌, pos, FitsSigned, List, ◌++◌, length, replicate}
+use Rattle.std.specs.Prelude.{◌≡◌, ℕ, ◌-◌, ◌≤◌, pos, FitsSigned, List, ◌++◌, length, replicate}
 use Rattle.std.specs.List.{AllByRecursion}
 use Rattle.std.specs.Int.{w32}
 use Rattle.pt_image.specs.declared.Parts.{Parts}
@@ -14,7 +14,8 @@ use Rattle.pc_regs.specs.declared.placement.Placement.{Placement}
 use Rattle.pc_regs.specs.Placement.{memory_words, IsPlacement}
 use Rattle.pc_regs.specs.Words.{steps_words, test_words, writing_of}
 use Rattle.pc_regs.specs.Represents.{compared}
-use Rattle.pc_regs.specs.Writings.{WritesWork}
+use Rattle.pc_regs.specs.Assignment.{with_temporaries, placement_of}
+use Rattle.pc_regs.specs.Writings.{WritesWork, FlowWritten}
 use Rattle.pc_regs.specs.Counts.{most_steps_words, most_test_words}
 
 -- The cells of a flow stand at the beginning of an image's memory, zeros behind them; inputs and outputs are cells, the same in both.
@@ -42,3 +43,10 @@ abbrev pub WordsAreFew : Type 0
 WordsAreFew =
     (p : Placement) → ((steps : List Step) → words_in (steps_words p steps) ≤ most_steps_words steps)
     × ((t : Test) → words_in (test_words p t) ≤ most_test_words t)
+
+-- The temporaries that a flow uses are enough: what is written with more of them is written with these.
+abbrev pub UsedTemporariesAreEnough : Type 0
+UsedTemporariesAreEnough =
+    (f : Flow) (temporaries : ℕ) → IsPlacement (with_temporaries (length f.declared) temporaries) →
+    FlowWritten (writing_of (with_temporaries (length f.declared) temporaries)) f →
+    IsPlacement (placement_of f) × FlowWritten (writing_of (placement_of f)) f

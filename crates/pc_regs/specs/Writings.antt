@@ -1,5 +1,6 @@
--- The words of a writing one by one, and what they have to be.
-use Rattle.std.specs.Prelude.{ℤ, FitsSigned, IsTrue, Some, None, List, [], ◌∷◌}
+-- The words of a writing one by one, what they have to be, and when the steps of a flow are written.
+use Rattle.std.specs.Prelude.{ℤ, FitsSigned, Bool, IsTrue, Option, Some, None, List, [], ◌∷◌}
+use Rattle.std.specs.List.{AllByRecursion}
 use Rattle.std.specs.Int.{w16}
 use Rattle.mb_isa.specs.declared.words.Instr.{Instr}
 use Rattle.mb_isa.specs.declared.words.Instr.TheVariants.{Imm}
@@ -7,6 +8,7 @@ use Rattle.mb_isa.specs.Codes.{IsInstr}
 use Rattle.pt_image.specs.declared.image.Parts.{Parts}
 use Rattle.pc_ir.specs.declared.nodes.Step.{Step}
 use Rattle.pc_ir.specs.declared.nodes.Test.{Test}
+use Rattle.pc_ir.specs.Flow.{Node, Nodes, straight, sequence, branch, turns, bounded, call, pause, fork, guard, no_nodes, and, Flow}
 use Rattle.pc_region.specs.Words.{Written, alone, after_imm, IsWork, IsTest, Writing}
 
 -- the words, one after another
@@ -28,3 +30,31 @@ pub record WritesWork (writing : Writing) : Type 0 where
   pub tests : (t : Test) → IsTrue (writing.is_test_written t) → AreWork (writing.test_words_of t)
   pub branches : (t : Test) (lower : ℤ) → FitsSigned w16 lower → IsInstr (writing.branch_of t lower)
   pub decided : (t : Test) (image : Parts) (upper lower : ℤ) → IsTest image (Some upper) lower (writing.branch_of t lower)
+
+-- ---- the steps and the tests of a flow are written
+
+module _ (writing : Writing) where
+  abbrev pub OptionWritten : Option Test → Type 0
+  OptionWritten None = Unit {0}
+  OptionWritten (Some test) = IsTrue (writing.is_test_written test)
+
+  abbrev mutual
+    pub NodeWritten : Node → Type 0
+    NodeWritten (straight steps) = IsTrue (writing.is_written steps)
+    NodeWritten (sequence nodes) = NodesWritten nodes
+    NodeWritten (branch test a b) = IsTrue (writing.is_test_written test) × NodeWritten a × NodeWritten b
+    NodeWritten (turns test body) = OptionWritten test × NodeWritten body
+    NodeWritten (bounded most test body) = OptionWritten test × NodeWritten body
+    NodeWritten (call f) = Unit {0}
+    NodeWritten (pause i) = Unit {0}
+    NodeWritten (fork i fs) = Unit {0}
+    NodeWritten (guard j body) = NodeWritten body
+
+    pub NodesWritten : Nodes → Type 0
+    NodesWritten no_nodes = Unit {0}
+    NodesWritten (and n nodes) = NodeWritten n × NodesWritten nodes
+
+  -- those of a flow, and its conditions
+  pub record FlowWritten (f : Flow) : Type 0 where
+    pub bodies : AllByRecursion NodeWritten f.bodies
+    pub conditions : AllByRecursion (λ (a : Bool × Test). IsTrue (writing.is_test_written a.1)) f.aborts

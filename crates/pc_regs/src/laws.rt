@@ -1,4 +1,4 @@
-ghost use Rattle.pc_regs.specs.Laws.{WordsDoTheSteps, WordsAreWork, WordsAreFew};
+ghost use Rattle.pc_regs.specs.Laws.{WordsDoTheSteps, WordsAreWork, WordsAreFew, UsedTemporariesAreEnough};
 
 /// The words of steps and tests do them: for every operator and every place of each operand, on every row of inputs.
 pub fn words_do_the_steps()
@@ -13,4 +13,9 @@ pub fn words_are_work()
 /// And there are no more of them than the table says.
 pub fn words_are_few()
     ensures { WordsAreFew }
+{}
+
+/// Where a flow's steps are written with some number of temporaries, they are written with those that it uses.
+pub fn used_temporaries_are_enough()
+    ensures { UsedTemporariesAreEnough }
 {}

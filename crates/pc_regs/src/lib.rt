@@ -6,6 +6,7 @@
 //! it; `words_are_work` that they are words which the data do wherever they stand, and `words_are_few` how many they are at most.
 #![tactic(auto)]
 
+mod assignment;
 mod elements;
 mod laws;
 mod operators;
@@ -13,6 +14,7 @@ mod placement;
 mod steps;
 mod words;
 
-pub use laws::{words_are_few, words_are_work, words_do_the_steps};
+pub use assignment::assign;
+pub use laws::{used_temporaries_are_enough, words_are_few, words_are_work, words_do_the_steps};
 pub use placement::{Location, Placement};
 pub use steps::{branch, count_steps, count_test, push_steps, push_test, register};

@@ -24,3 +24,4 @@ pub mod Numbers
 pub mod Laid
 pub mod Words
 pub mod Rooms
+pub mod Declared

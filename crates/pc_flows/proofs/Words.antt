@@ -13,7 +13,7 @@ use Rattle.pc_lower.specs.Lowered.{steps_of, operands_of, number_test, loop_test
 use Rattle.pc_lower.specs.Aborts.{aborts_in, aborts_in_all, aborts_of}
 use Rattle.pc_flows.specs.Cells.{StepKeeps, StepsKeep, OptionKeeps, NodeKeeps, NodesKeep}
 
-all-append : {A : Type 0} (P : A → Type 0) (xs ys : List A) → AllByRecursion P xs → AllByRecursion P ys → AllByRecursion P (xs ++ ys)
+pub all-append : {A : Type 0} (P : A → Type 0) (xs ys : List A) → AllByRecursion P xs → AllByRecursion P ys → AllByRecursion P (xs ++ ys)
 all-append P [] ys h k = k
 all-append P (x ∷ xs) ys h k = (h.0, all-append P xs ys h.1 k)
 

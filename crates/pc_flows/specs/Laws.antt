@@ -1,5 +1,7 @@
 -- The laws of this crate.
-use Rattle.std.specs.Prelude.{◌≡◌, ℕ, ◌≤◌, length, Bool, List}
+use Rattle.std.specs.Prelude.{◌≡◌, ℕ, ◌≤◌, FitsSigned, length, Bool, List}
+use Rattle.std.specs.Int.{w32}
+use Rattle.std.specs.List.{AllByRecursion}
 use Rattle.mb_isa.specs.Costs.{IsCosts}
 use Rattle.pt_image.specs.declared.Parts.{Parts}
 use Rattle.mb_step.specs.Cells.{Cells}
@@ -42,9 +44,10 @@ FlowsAreWithinLimits =
     image.inputs ≡ (typed_flow t).inputs → image.outputs ≡ (typed_flow t).outputs →
     IsWithinLimits image (typed_flow t) writing (sizes_for writing (typed_flow t).bodies)
 
--- Its steps keep to its cells; inputs and outputs are 64 cells at most of each, and the cells have 15,000 words at most.
+-- Its steps keep to its cells; inputs and outputs are 64 cells at most of each, and the cells have 15,000 words at most, which are
+-- declared with words of 32 bits.
 abbrev pub FlowsKeepToTheirCells : Type 0
 FlowsKeepToTheirCells =
     (t : Typing) → IsTyped t → IsWithin t →
     KeepsCells (typed_flow t) × ArePorts (typed_flow t) (typed_flow t).inputs × ArePorts (typed_flow t) (typed_flow t).outputs
-    × (length (typed_flow t).declared ≤ 15000)
+    × (length (typed_flow t).declared ≤ 15000) × AllByRecursion (FitsSigned w32) (typed_flow t).declared

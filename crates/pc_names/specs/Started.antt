@@ -21,7 +21,11 @@ abbrev pub is_own : Found → Bool
 is_own Own = true
 is_own _ = false
 
+-- the name at a site, where a `PAR` names it and no parameter or local hides it
+abbrev pub started_item : Site → List Word
+started_item s = one_if (is_start s.role && not (is_own s.found)) s.word
+
 -- those that no parameter or local hides
 abbrev pub started_items : List Site → List Word
 started_items [] = []
-started_items (s ∷ rest) = one_if (is_start s.role && not (is_own s.found)) s.word ++ started_items rest
+started_items (s ∷ rest) = started_item s ++ started_items rest

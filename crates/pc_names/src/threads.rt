@@ -1,10 +1,10 @@
-ghost use Rattle.std.specs.Prelude.{◌≡◌, ◌||◌, ◌&&◌, not, IfOk, map};
+ghost use Rattle.std.specs.Prelude.{◌≡◌, ◌||◌, IfOk, map};
 ghost use Rattle.pc_ast.specs.declared.expressions.Word.{Word as SpecWord};
-ghost use Rattle.pc_typed.specs.Places.{is_among, is_start};
+ghost use Rattle.pc_typed.specs.Places.{is_among};
 ghost use Rattle.pc_typed.specs.Places as places;
 ghost use Rattle.pc_names.specs.Sites.{sites_of};
 ghost use Rattle.pc_names.specs.Names.{HasNames};
-ghost use Rattle.pc_names.specs.Started.{is_own, one_if, started, started_items};
+ghost use Rattle.pc_names.specs.Started.{started, started_item, started_items};
 
 use crate::names::Names;
 use crate::sites::Site;
@@ -49,7 +49,7 @@ impl<'a> Model for Threads<'a> {
 
 /// These names, and the site's where a `PAR` names an item there.
 fn with_started<'a>(names: Names<'a>, site: &Site<'a>) -> Result<Names<'a>, Memory>
-    ensures { IfOk result (λ grown. (w : SpecWord) → is_among w grown ≡ (is_among w names.entry || is_among w (one_if (is_start site.now.role && not (is_own site.now.found)) site.now.word))) }
+    ensures { IfOk result (λ grown. (w : SpecWord) → is_among w grown ≡ (is_among w names.entry || is_among w (started_item site.now))) }
 {
     let mut grown = names;
     if !site.starts_item() {

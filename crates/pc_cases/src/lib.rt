@@ -1,8 +1,8 @@
-//! Tests of the front over whole sources, row by row: trees, places of refusal, numbers of names, canonical texts, small
-//! programs; and of the meaning: what whole programs show tick by tick.
+//! Tests of the front over whole sources, row by row: trees, places of refusal, numbers of names, canonical texts; and of
+//! the meaning: what whole programs show tick by tick.
 //!
-//! `printed` and `small_program` keep the tree to themselves, for the tests here and above. They promise nothing, so that
-//! a test knows no more of a source than what it compares.
+//! `printed` keeps the tree to itself, for the tests here and above. It promises nothing, so that a test knows no more of
+//! a source than what it compares.
 #![tactic(auto)]
 
 #[cfg(test)]
@@ -21,8 +21,6 @@ mod place_tests;
 mod print_tests;
 #[cfg(test)]
 mod shown;
-#[cfg(test)]
-mod small_tests;
 mod texts;
 
-pub use texts::{printed, small_program};
+pub use texts::printed;

@@ -1,5 +1,4 @@
 use pc_print::print;
-use pc_small::{Small, small_of};
 use pc_verdict::source_of;
 use pt_base::{Memory, Refusal, Text};
 use std::alloc::Global;
@@ -9,16 +8,6 @@ pub fn printed(alloc: Global, source: &[u8]) -> Result<Option<Text>, Memory> {
     let text = Text::of(alloc, source)?;
     match source_of(alloc, &text) {
         Ok(program) => Ok(Some(print(alloc, &program)?)),
-        Err(Refusal::Memory) => Err(Memory),
-        Err(_) => Ok(None),
-    }
-}
-
-/// The small program that a source is, or nothing where the source is refused or isn't small.
-pub fn small_program(alloc: Global, source: &[u8]) -> Result<Option<Small>, Memory> {
-    let text = Text::of(alloc, source)?;
-    match source_of(alloc, &text) {
-        Ok(program) => small_of(alloc, &program),
         Err(Refusal::Memory) => Err(Memory),
         Err(_) => Ok(None),
     }

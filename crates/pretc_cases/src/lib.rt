@@ -1,5 +1,6 @@
 //! The top call over objects in memory: its reports, its statuses, and each load, store, pull, push and flush
-//! that fails in turn, for `go`, `mean`, `gen`, `print`, `rules`, `check` and `exec`. Beside it, values of operators.
+//! that fails in turn, for `go`, `mean`, `gen`, `print`, `rules`, `check` and `exec`; and programs of every construct, of
+//! which `go` and `mean` tell the same outputs. Beside it, values of operators.
 //!
 //! There is nothing here but tests and what they call. The helpers promise nothing, so that a test knows no more of a
 //! call than whether it came as wanted.
@@ -11,6 +12,8 @@ mod calls;
 mod check_tests;
 #[cfg(test)]
 mod checks;
+#[cfg(test)]
+mod compiled_tests;
 #[cfg(test)]
 mod exec_tests;
 #[cfg(test)]

@@ -7,19 +7,19 @@ const FIRST: &str =
     "ReactiveInput int a = 0;\nReactiveOutput int o = 0;\nvoid main() { o = a + 1; EOT; }";
 
 // Two threads that share a variable: the first of the text goes first, and both are gone after the pause.
-const SHARED: &str =
+pub const SHARED: &str =
     "ReactiveOutput int o = 0; ReactiveOutput int p = 0; int x = 0; void f() { x = 1; EOT; } void g() { p = x; x = 2; EOT; } void main() { PAR(f, g); o = x; }";
 
 // A weak abort in a loop: in the tick in which it fires its body still runs to its pause, and `main` goes on behind it in the
 // same tick.
-const WEAK: &str =
+pub const WEAK: &str =
     "ReactiveInput int a = 0; ReactiveOutput int o = 0; void main() { while (1) { weak abort { o = o + 1; EOT; o = o + 2; EOT; } when pre (a); o = o + 10; } }";
 
 // A strong abort: its body isn't run in the tick in which the condition of the last tick held.
-const STRONG: &str =
+pub const STRONG: &str =
     "ReactiveInput int a = 0; ReactiveOutput int o = 0; void main() { abort { while (1) { o = o + 1; EOT; } } when pre (a); o = 100; }";
 
-const GENERATED: &str =
+pub const GENERATED: &str =
     "ReactiveInput int a = 0;\nReactiveOutput int o = 0;\nint s = 0;\nvoid t1() {\n  int i = 0;\n  while (1) { i = 0; while (i < 1) #1 { i = i + 1; s = s + a; } EOT; }\n}\nvoid out() {\n  while (1) { o = s; EOT; }\n}\nvoid main() {\n  while (1) { weak abort PAR(t1, out); when pre (a == 9); s = 0; }\n}\n";
 
 // Whether `mean` comes so, and leaves so many bytes of the input.

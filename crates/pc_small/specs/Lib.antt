@@ -1,4 +1,0 @@
-pub mod Program
-pub mod Trees
-pub mod Limits
-pub mod Ports

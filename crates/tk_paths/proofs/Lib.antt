@@ -27,3 +27,6 @@ pub mod Sections
 pub mod SlotLaws
 pub mod Accepting
 pub mod ProgramLaws
+pub mod Ranges
+pub mod CodeRanges
+pub mod CountLaws

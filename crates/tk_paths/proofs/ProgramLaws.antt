@@ -1,5 +1,5 @@
 -- The certificate of a program is accepted, and its numbers are the greatest.
-use Rattle.std.proofs.Common.{◌≡◌, ◌≤◌, ℕ, List, length, Some, refl, arith}
+use Rattle.std.proofs.Common.{◌≤◌, ℕ, List, length, refl, arith}
 use Rattle.mb_isa.specs.declared.Class.{Class}
 use Rattle.mb_isa.specs.Costs.{cost_of, IsCosts}
 use Rattle.pt_image.specs.declared.Point.{Point}

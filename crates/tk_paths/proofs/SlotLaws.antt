@@ -47,7 +47,7 @@ module _ (f g : Side → ℕ → Option ℕ) where
       ∙ ap (greater (plus (g ToPause c) (Some (resumed_most g (c + 1) n))))
       (ap (λ o. plus (Some (or_zero o)) (resumed_paused f (c + 1) n)) e ∙ ap (plus (Some (or_zero (g ToEnd c)))) (paused-same n (c + 1) r))
 
-get-past : {X : Type 0} (n c : ℕ) (x : X) (xs : List X) → n ≤ c → slice_get (replicate n x ++ xs) c ≡ slice_get xs (c - n)
+pub get-past : {X : Type 0} (n c : ℕ) (x : X) (xs : List X) → n ≤ c → slice_get (replicate n x ++ xs) c ≡ slice_get xs (c - n)
 get-past zero c x xs h = let e : c ≡ c - 0 = omega arith in ap (slice_get xs) e
 get-past (suc n) zero x xs h = absurd (omega (arith, h))
 get-past (suc n) (suc c) x xs h = let e : c - n ≡ suc c - suc n = omega arith in get-past n c x xs (omega (arith, h)) ∙ ap (slice_get xs) e

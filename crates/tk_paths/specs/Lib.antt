@@ -6,3 +6,4 @@ pub mod Greatest
 pub mod Codes
 pub mod Numbers
 pub mod Programs
+pub mod Counts

@@ -4,7 +4,7 @@
 //! And the certificate of a program, whose numbers are told from how its code lies in the image: it is accepted, and its bound is
 //! the worst.
 //!
-//! Read `Passages`, `Reached`, `Tight`, `Regions`, `Greatest`, `Codes`, `Numbers` and `Programs` in `specs/` in this order;
+//! Read `Passages`, `Reached`, `Tight`, `Regions`, `Greatest`, `Codes`, `Numbers`, `Programs` and `Counts` in `specs/` in this order;
 //! `docs/bounds.md`, "Tight certificates" to "Programs", says the same in words. The functions below do nothing: their contracts are
 //! the theorems.
 #![tactic(auto)]
@@ -13,6 +13,7 @@ ghost use Rattle.tk_paths.specs.Tight.{TightIsWorst};
 ghost use Rattle.tk_paths.specs.Greatest.{BeginningsAreCovered, GreatestIsWorst, RestsAreCovered};
 ghost use Rattle.tk_paths.specs.Regions.{RegionsAreCrossed, RegionsArePassages};
 ghost use Rattle.tk_paths.specs.Programs.{ProgramBoundsAreWorst, ProgramsAreAccepted};
+ghost use Rattle.tk_paths.specs.Counts.{NumbersAreCounted};
 
 /// The bound of a certificate that is accepted and tight is the worst of its image: some free tick costs just as much, and
 /// none costs more.
@@ -55,4 +56,10 @@ pub fn a_program_is_accepted()
 /// So its bound is the worst of the image.
 pub fn a_program_bound_is_worst()
     ensures { ProgramBoundsAreWorst }
+{}
+
+/// And no number of it is greater than a count of the program's words: so the certificate can be written down, and the bound is
+/// within what a walk may cost, where these counts are small enough.
+pub fn a_program_is_counted()
+    ensures { NumbersAreCounted }
 {}

@@ -128,7 +128,7 @@ number_inside n (x ∷ xs) p h =
     ⊎_elim (λ is. (0, omega (arith, is), omega arith)) (λ rest. let r = number_inside (n + 1) xs p rest in (suc r.0, omega (arith, r.1), omega (arith, r.2)))
     (in_cases n p (numbers_from (n + 1) xs) h)
 
-nth_cell : (kind : CellKind) (ws : List Word) (k : ℕ) → k < length ws → (c : Cell) × (slice_get (map (cell_of kind) ws) k ≡ Some c) × (c.kind ≡ kind) × (c.size ≡ 1)
+pub nth_cell : (kind : CellKind) (ws : List Word) (k : ℕ) → k < length ws → (c : Cell) × (slice_get (map (cell_of kind) ws) k ≡ Some c) × (c.kind ≡ kind) × (c.size ≡ 1)
 nth_cell kind [] k less = absurd (omega arith)
 nth_cell kind (w ∷ ws) zero less = (cell_of kind w, refl, refl, refl)
 nth_cell kind (w ∷ ws) (suc k) less = nth_cell kind ws k (omega arith)

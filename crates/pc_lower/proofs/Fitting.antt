@@ -24,7 +24,7 @@ use Rattle.pc_lower.specs.Order.{Listed, AllListed}
 use Rattle.pc_lower.specs.Sound.{Apart, EachApart, ArgumentsApart, Gives, CallFits, Fits, AllFit}
 use Rattle.pc_lower.proofs.Nestings.{LiteralsFit, AllLiteralsFit}
 
-routine_there : (g : Function → Routine) (fs : List Function) (k : ℕ) (f : Function) → slice_get fs k ≡ Some f → routine_at (map g fs) k ≡ g f
+pub routine_there : (g : Function → Routine) (fs : List Function) (k : ℕ) (f : Function) → slice_get fs k ≡ Some f → routine_at (map g fs) k ≡ g f
 routine_there g [] k f h = absurd (cc)
 routine_there g (x ∷ fs) zero f h = let e : x ≡ f = cc in ap g e
 routine_there g (x ∷ fs) (suc k) f h = routine_there g fs k f h

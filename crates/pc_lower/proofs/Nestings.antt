@@ -1,6 +1,6 @@
 -- The statements that tokens spell, with places for names: their expressions are nested as the grammar nests them, and the
 -- numbers that are tests of loops have 32 bits.
-use Rattle.std.proofs.Common.{◌≡◌, ℕ, suc, ◌+◌, ◌≤◌, Bool, true, false, List, [], ◌∷◌, ◌++◌, map, Option, refl, sym, subst, arith}
+use Rattle.std.proofs.Common.{◌≡◌, ℕ, suc, ◌+◌, ◌<◌, ◌≤◌, ◌^◌, Bool, true, false, List, [], ◌∷◌, ◌++◌, map, length, Option, refl, sym, subst, arith}
 use Rattle.pt_base.specs.declared.operators.BinOp.{BinOp}
 use Rattle.pt_base.specs.declared.limits.TheConstants.{MOST_EXPRESSION_LEVELS}
 use Rattle.pc_lex.specs.declared.tokens.Token.{Token}
@@ -11,7 +11,7 @@ use Rattle.pc_ast.specs.declared.expressions.Goal.TheVariants.{Nothing}
 use Rattle.pc_ast.specs.declared.statements.Stmt.{Stmt}
 use Rattle.pc_grammar.specs.declared.marks.Pair.{Pair}
 use Rattle.pc_grammar.specs.Expressions.{word_at, grown, SpellsOperand, number as spells_number, name as spells_name, element as spells_element, unary as spells_unary, inside, SpellsBetween, between, SpellsLevel, operand as spells_operand, chain as spells_chain, SpellsRest, none as no_rest, more as more_rest, IsExpression}
-use Rattle.pc_grammar.specs.Lists.{SpellsMore, none as no_more, more as more_of, SpellsList, list, SpellsListed, listed, SpellsArguments, no_arguments, some_arguments}
+use Rattle.pc_grammar.specs.Lists.{SpellsMore, none as no_more, more as more_of, SpellsList, list, SpellsListed, listed, SpellsArguments, no_arguments, some_arguments, SpellsName}
 use Rattle.pc_grammar.specs.Settings.{SpellsSetting, value, call, SpellsLoop, free, counted, SpellsTest, test as spells_test}
 use Rattle.pc_grammar.specs.Simple.{SpellsNamed, variable, element as spells_target, routine as spells_routine, SpellsSimple, skip as spells_skip, named as spells_named, eot as spells_eot, par as spells_par}
 use Rattle.pc_grammar.specs.Statements.{SpellsStmt, simple, block as spells_block, if_open, if_else, while, abort as spells_abort, weak_abort, SpellsAborted, aborted, SpellsParts, none as no_parts, more as more_parts, IsBody}
@@ -24,7 +24,8 @@ use Rattle.pc_lower.specs.Counts.{Nested, nested_number, nested_cell, nested_ele
 use Rattle.pc_lower.proofs.Placed.{placed, placed-Number, placed-Var, placed-Elem, placed-Unary, numbered_operands, placed-Chain, placed_statement, placed_statements, placed-Skip, placed-Assign, placed-Call, placed-Eot, placed-Par, placed-Block, placed-If, placed-If_else, placed-While, placed-Abort}
 use Rattle.pc_lower.proofs.Spelled.{Small, small_left, small_right}
 
--- ---- the tests of loops
+-- ---- numbers and lists as they are spelled: the test of a loop that is a literal, and the number of a loop, are of 32 bits; a
+-- `PAR` names some thread
 
 abbrev mutual
   pub LiteralsFit : Statement → Type 0
@@ -33,10 +34,10 @@ abbrev mutual
   LiteralsFit (call_of goal f es) = Unit {0}
   LiteralsFit (block all) = AllLiteralsFit all
   LiteralsFit (if_so test first second) = LiteralsFit first × LiteralsFit second
-  LiteralsFit (repeat most test body) = LiteralFits test × LiteralsFit body
+  LiteralsFit (repeat most test body) = LiteralFits test × LiteralsFit body × (most < 2 ^ 32)
   LiteralsFit (loop test body) = LiteralFits test × LiteralsFit body
   LiteralsFit (eot i) = Unit {0}
-  LiteralsFit (par i threads) = Unit {0}
+  LiteralsFit (par i threads) = 1 ≤ length threads
   LiteralsFit (abort j weak body test) = LiteralsFit body
 
   pub AllLiteralsFit : Statements → Type 0
@@ -144,15 +145,19 @@ module _ (rooms : List Room) (number_of : Word → ℕ) where
     named_kept (spells_target d e) = setting_kept e (enclosed_nested d)
     named_kept {x = x} (spells_routine {all = es} z is d) = subst Kept (sym (placed-Call rooms number_of function n Nothing x es)) ((tt, arguments_nested d), tt)
 
+    some_threads : {source : List ℕ} {w : List Token} {all : List Word} → SpellsListed (SpellsName source) w all → 1 ≤ length (map function all)
+    some_threads (listed a b opens closes (list d ds)) = omega arith
+
     simple_kept : {source : List ℕ} {w : List Token} {s : Stmt Word} → SpellsSimple source w s → Kept (set s)
     simple_kept (spells_skip t is) = subst Kept (sym (placed-Skip rooms number_of function n)) (tt, tt)
     simple_kept (spells_named t is d) = named_kept d
     simple_kept (spells_eot t z is ends) = subst Kept (sym (placed-Eot rooms number_of function n t.span)) (tt, tt)
-    simple_kept (spells_par {all = threads} t z is ends d) = subst Kept (sym (placed-Par rooms number_of function n t.span threads)) (tt, tt)
+    simple_kept (spells_par {all = threads} t z is ends d) = subst Kept (sym (placed-Par rooms number_of function n t.span threads)) (tt, some_threads d)
 
     loop_kept : {source : List ℕ} {w : List Token} {p : Expr Word × Option ℕ} → SpellsLoop source w p → Small w → (body : Statement) → Kept body → Kept (loop_from p.1 (at p.0) body)
     loop_kept (free d) small body k = ((enclosed_nested d, k.0), (between_literal d small, k.1))
-    loop_kept (counted {w = w} h t d is_hash is) small body k = ((enclosed_nested d, k.0), (between_literal d (small_left w (h ∷ t ∷ []) small), k.1))
+    loop_kept (counted {w = w} {most = most} h t d is_hash is) small body k =
+        ((enclosed_nested d, k.0), (between_literal d (small_left w (h ∷ t ∷ []) small), k.1, (small_right w (h ∷ t ∷ []) small).1.0 most is))
 
     test_nested : {source : List ℕ} {w : List Token} {e : Expr Word} → SpellsTest source w e → Nested 0 0 (at e)
     test_nested (spells_test a b z is_when is_pre ends d) = enclosed_nested d

@@ -66,20 +66,20 @@ pub data Among {A : Type 0} : List A → List A → Type 0 where
   passed : {xs ys : List A} (y : A) → Among xs ys → Among xs (y ∷ ys)
   taken : {xs ys : List A} (y : A) → Among xs ys → Among (y ∷ xs) (y ∷ ys)
 
-none_among : {A : Type 0} (ys : List A) → Among [] ys
+pub none_among : {A : Type 0} (ys : List A) → Among [] ys
 none_among [] = no_more
 none_among (y ∷ ys) = passed y (none_among ys)
 
-both_among : {A : Type 0} {xs ys us vs : List A} → Among xs ys → Among us vs → Among (xs ++ us) (ys ++ vs)
+pub both_among : {A : Type 0} {xs ys us vs : List A} → Among xs ys → Among us vs → Among (xs ++ us) (ys ++ vs)
 both_among no_more q = q
 both_among (passed y p) q = passed y (both_among p q)
 both_among (taken y p) q = taken y (both_among p q)
 
 -- behind or before what is passed over
-behind : {A : Type 0} {us vs : List A} (ys : List A) → Among us vs → Among us (ys ++ vs)
+pub behind : {A : Type 0} {us vs : List A} (ys : List A) → Among us vs → Among us (ys ++ vs)
 behind ys q = both_among (none_among ys) q
 
-before : {A : Type 0} {us vs : List A} (ys : List A) → Among us vs → Among us (vs ++ ys)
+pub before : {A : Type 0} {us vs : List A} (ys : List A) → Among us vs → Among us (vs ++ ys)
 before {us = us} {vs = vs} ys q = subst (λ zs. Among zs (vs ++ ys)) (append-nil us) (both_among q (none_among ys))
 
 pub among_rise : {xs ys : List Span} → Among xs ys → (from to : ℕ) → Rises from ys to → Rises from xs to

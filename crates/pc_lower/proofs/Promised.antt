@@ -210,3 +210,12 @@ typed_nested t typed =
     let items : List Item = typed.program.items in
     let kept = items_kept typed.tree.spelled (cut_small typed.tree.cut) in
     subst (λ x. RoutinesNested (program_of x).routines) (sym typed.same) (whole_nested items typed.program.length typed.unbroken kept (typing_of items typed.program.length).main)
+
+-- what is spelled, of each function
+pub typed_spelled : (t : Typing) → IsTyped t → (i : ℕ) (f : Function) → slice_get t.functions i ≡ Some f → AllLiteralsFit (statements_of (rooms_of t.cells) (numbering_of t.functions) f.body)
+unfolding typing_of
+typed_spelled t typed =
+    let items : List Item = typed.program.items in
+    let kept = items_kept typed.tree.spelled (cut_small typed.tree.cut) in
+    subst (λ x. (i : ℕ) (f : Function) → slice_get x.functions i ≡ Some f → AllLiteralsFit (statements_of (rooms_of x.cells) (numbering_of x.functions) f.body)) (sym typed.same)
+    (λ i f at. (framed items typed.program.length typed.unbroken kept (typing_of items typed.program.length).main i f at).literals)

@@ -1,6 +1,6 @@
 -- A function that is a thread has no result.
 use Rattle.std.proofs.Common.{◌≡◌, ℕ, Bool, true, false, cond, ◌||◌, ◌&&◌, List, [], ◌∷◌, ◌++◌, ◌⊎◌, inl, inr, ⊎_elim, Option, Some, None, take, refl, sym, ap, subst, ◌∙◌, append_assoc}
-use Rattle.std.specs.Prelude.{Contains, find, not, codes}
+use Rattle.std.specs.Prelude.{Contains, find, not, codes, unwrap_or}
 use Rattle.std.specs.List.{list_any}
 use Rattle.std.proofs.lemmas.Slice.Eq.{bytes_eq-Decides}
 use Rattle.pt_base.specs.declared.rules.Rule.{Rule}
@@ -15,10 +15,11 @@ use Rattle.pc_typed.specs.declared.roles.Role.{Role}
 use Rattle.pc_typed.specs.declared.roles.Role.TheVariants.{Reads, ReadsElement, Writes, WritesElement, Calls, Starts}
 use Rattle.pc_typed.specs.Places.{Place, places, item_places, Found, Own, Known, found, found_among, word_of, same_text, is_among, has_name, is_start, starts, is_main, is_thread}
 use Rattle.pc_typed.specs.Breaking.{Breaks, item_twice, unknown, wrong_kind, no_main, is_wrong, is_main_item}
+use Rattle.pc_typed.specs.Typing.{functions_in, function_number}
 use Rattle.pc_typed.proofs.Cuts.{left_true, right_true, is_false, any_contains, cut_found, cut_any}
 use Rattle.pc_typed.proofs.Standing.{place_stands, placed_in}
 
-same_bytes : (a b : Word) → same_text a b ≡ true → a.text ≡ b.text
+pub same_bytes : (a b : Word) → same_text a b ≡ true → a.text ≡ b.text
 same_bytes a b e = (bytes_eq-Decides a.text b.text).0 e
 
 bytes_same : (a b : Word) → a.text ≡ b.text → same_text a b ≡ true
@@ -33,6 +34,16 @@ cut_cases (z ∷ b) (w ∷ c) x y u v e =
     let rest : b ++ x ∷ u ≡ c ++ y ∷ v = cc in
     ⊎_elim (λ same. inl same) (λ other. inr (⊎_elim (λ first. inl (in_tail z y b first)) (λ second. inr (in_tail w x c second)) other)) (cut_cases b c x y u v rest)
 
+-- and so are the lists before them
+before_cases : {A : Type 0} (b c : List A) (x y : A) (u v : List A) → b ++ x ∷ u ≡ c ++ y ∷ v → (b ≡ c) ⊎ (Contains b y ⊎ Contains c x)
+before_cases [] [] x y u v e = inl refl
+before_cases [] (z ∷ c) x y u v e = let same : z ≡ x = cc in inr (inr (subst (λ w. Contains (z ∷ c) w) same (in_head z c)))
+before_cases (z ∷ b) [] x y u v e = let same : z ≡ y = cc in inr (inl (subst (λ w. Contains (z ∷ b) w) same (in_head z b)))
+before_cases (z ∷ b) (w ∷ c) x y u v e =
+    let rest : b ++ x ∷ u ≡ c ++ y ∷ v = cc in
+    let same : z ≡ w = cc in
+    ⊎_elim (λ alike. inl (ap (λ l. z ∷ l) alike ∙ ap (λ q. q ∷ c) same)) (λ other. inr (⊎_elim (λ first. inl (in_tail z y b first)) (λ second. inr (in_tail w x c second)) other)) (before_cases b c x y u v rest)
+
 abbrev gives_of : Item → Bool
 gives_of (FunctionItem name gives parameters locals body result) = gives
 gives_of _ = false
@@ -41,7 +52,7 @@ not_both : (b : Bool) → b ≡ true → b ≡ false → ⊥
 not_both true e f = cc
 not_both false e f = cc
 
-not_not : (b : Bool) → not b ≡ true → b ≡ false
+pub not_not : (b : Bool) → not b ≡ true → b ≡ false
 not_not true e = absurd (cc)
 not_not false e = refl
 
@@ -56,7 +67,17 @@ module _ (items : List Item) (end : ℕ) (unbroken : (rule : Rule) (span : Span)
       other))
       (cut_cases b c x y u v (sym is_x ∙ is_y))
 
-  main_is : (x : Item) → is_main_item x ≡ true → ((word_of x).text ≡ codes "main") × (gives_of x ≡ false)
+  -- and so it stands in one place
+  pub one_place : (b c : List Item) (x y : Item) (u v : List Item) → items ≡ b ++ x ∷ u → items ≡ c ++ y ∷ v → (word_of x).text ≡ (word_of y).text → b ≡ c
+  one_place b c x y u v is_x is_y same =
+      ⊎_elim (λ e. e)
+      (λ other. absurd (⊎_elim
+      (λ first. unbroken _ _ (item_twice b u x is_x (any_contains (has_name (word_of x)) b y first (bytes_same (word_of x) (word_of y) same))))
+      (λ second. unbroken _ _ (item_twice c v y is_y (any_contains (has_name (word_of y)) c x second (bytes_same (word_of y) (word_of x) (sym same)))))
+      other))
+      (before_cases b c x y u v (sym is_x ∙ is_y))
+
+  pub main_is : (x : Item) → is_main_item x ≡ true → ((word_of x).text ≡ codes "main") × (gives_of x ≡ false)
   main_is (Scalar kind name start) e = absurd (cc)
   main_is (Array name size) e = absurd (cc)
   main_is (FunctionItem name true parameters locals body result) e = absurd (cc)
@@ -84,16 +105,17 @@ module _ (items : List Item) (end : ℕ) (unbroken : (rule : Rule) (span : Span)
       by Starts is (FunctionItem name false parameters locals body result) calm = refl
 
   -- the item that a place names stands in the program
-  record Named (p : Place) : Type 0 where
-    item : Item
-    before : List Item
-    after : List Item
-    whole : items ≡ before ++ item ∷ after
-    text : p.word.text ≡ (word_of item).text
-    is : found p ≡ Known item
+  pub record Named (p : Place) : Type 0 where
+    pub item : Item
+    pub before : List Item
+    pub after : List Item
+    pub whole : items ≡ before ++ item ∷ after
+    pub text : p.word.text ≡ (word_of item).text
+    pub is : found p ≡ Known item
+    pub number : function_number p.before p.word ≡ functions_in before
 
-  named : (p : Place) → Contains (places items) p → is_among p.word p.own ≡ false → Named p
-  unfolding found
+  pub named : (p : Place) → Contains (places items) p → is_among p.word p.own ≡ false → Named p
+  unfolding found function_number
   named p h calm = by (find (has_name p.word) p.before) refl
     where
       found_is : (o : Option Item) → find (has_name p.word) p.before ≡ o → found p ≡ found_among o
@@ -120,20 +142,21 @@ module _ (items : List Item) (end : ℕ) (unbroken : (rule : Rule) (span : Span)
             whole = r.1 ∙ ap (λ zs. zs ++ r.0) c.whole ∙ append_assoc (take c.number p.before) (x ∷ c.after) r.0;
             text = same_bytes p.word (word_of x) c.passes;
             is = found_is (Some x) e;
+            number = ap (λ o. functions_in (take (unwrap_or o 0) p.before)) c.at;
           }
+
+  pub main_there : list_any is_main_item items ≡ true
+  main_there = truth (list_any is_main_item items) (λ e. unbroken _ _ (no_main e))
+    where
+      truth : (b : Bool) → (b ≡ false → ⊥) → b ≡ true
+      truth true h = refl
+      truth false h = absurd (h refl)
 
   pub thread_plain : (before : List Item) (name : Word) (gives : Bool) (parameters : List Word) (locals : List (Word × Option (Expr Word))) (body : List (Stmt Word)) (result : Option (Expr Word)) (after : List Item) →
       items ≡ before ++ FunctionItem name gives parameters locals body result ∷ after → is_thread items name ≡ true → gives ≡ false
   unfolding is_thread
   thread_plain before name gives parameters locals body result after whole thread = by (is_main name) refl thread
     where
-      main_there : list_any is_main_item items ≡ true
-      main_there = truth (list_any is_main_item items) (λ e. unbroken _ _ (no_main e))
-        where
-          truth : (b : Bool) → (b ≡ false → ⊥) → b ≡ true
-          truth true h = refl
-          truth false h = absurd (h refl)
-
       by : (b : Bool) → is_main name ≡ b → (b || list_any (starts name) (places items)) ≡ true → gives ≡ false
       by true is_it e =
           let a = cut_any is_main_item items main_there in

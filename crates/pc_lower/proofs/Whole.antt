@@ -38,7 +38,7 @@ result_there routines flows e (Paused r store) end done h = absurd done
 
 module _ (routines : List Routine) (aborts : List (Bool × Expression)) where
   -- what is known of a function and of its body
-  record Meets (n : ℕ) (f : Store → Outcome) (g : State → End) : Type 0 where
+  pub record Meets (n : ℕ) (f : Store → Outcome) (g : State → End) : Type 0 where
     pub same : SameFrom routines f g
     pub back : Back (routine_at routines n).result g
     pub fits : (store : Store) → OutcomeFits routines aborts n (f store)
@@ -105,7 +105,7 @@ agree aborts before w here j a is =
 -- ---- ticks
 
 module _ (p : Program) (fit : ProgramFits p) where
-  abbrev SamePosition : Standing → Position → Type 0
+  abbrev pub SamePosition : Standing → Position → Type 0
   SamePosition Unstarted Fresh = Unit {0}
   SamePosition Unstarted (Waits q) = ⊥
   SamePosition Unstarted Stopped = ⊥
@@ -116,7 +116,7 @@ module _ (p : Program) (fit : ProgramFits p) where
   SamePosition Ended (Waits q) = ⊥
   SamePosition Ended Stopped = Unit {0}
 
-  record SamePoint (m : Moment) (q : Point) : Type 0 where
+  pub record SamePoint (m : Moment) (q : Point) : Type 0 where
     pub position : SamePosition m.standing q.position
     pub store : q.state.store ≡ m.store
 
@@ -132,7 +132,7 @@ module _ (p : Program) (fit : ProgramFits p) where
   count_is : length (starts_of p.routines) ≡ length p.routines
   count_is = omega (arith, all.1)
 
-  meets_at : (f : ℕ) → f < length p.routines → Meets p.routines (aborts_of p.routines) f (known_at (starts_of p.routines) f) (flow_at (flows_of (bodies_of p.routines p.routines)) f)
+  pub meets_at : (f : ℕ) → f < length p.routines → Meets p.routines (aborts_of p.routines) f (known_at (starts_of p.routines) f) (flow_at (flows_of (bodies_of p.routines p.routines)) f)
   meets_at f less = all.0.each_meets f (omega (arith, less, all.1))
 
   fits_at : (f : ℕ) → f < length p.routines → (store : Store) → OutcomeFits p.routines (aborts_of p.routines) (length p.routines) (known_at (starts_of p.routines) f store)
@@ -158,7 +158,7 @@ module _ (p : Program) (fit : ProgramFits p) where
   same_went Ended (Waits q) h before b was store w is = absurd h
   same_went Ended Stopped h before b was store w is = same_end (Done store) (Through w) is tt
 
-  same_tick : (m : Moment) (q : Point) → SamePoint m q → (row : List ℤ) → SamePoint (ticked p m row) (moved (flow_of p) q row)
+  pub same_tick : (m : Moment) (q : Point) → SamePoint m q → (row : List ℤ) → SamePoint (ticked p m row) (moved (flow_of p) q row)
   same_tick m q h row =
       same_went m.standing q.position h.position m.store q.state h.store (set_all p.inputs row m.store) (put_store (set_all p.inputs row q.state.store) q.state) (ap (set_all p.inputs row) h.store)
 

@@ -13,8 +13,8 @@ use Rattle.pc_typed.specs.Breaking.{Breaks, item_twice, own_twice, unknown, wron
 use Rattle.pt_base.specs.First.{Fault, fault_if}
 use Rattle.pt_base.proofs.Elements.{in_left, in_right, in_either, in_flat, flat_in}
 use Rattle.pt_base.proofs.Least.{fault_in, in_fault}
-use Rattle.pc_sites.specs.Sites.{seen, sites_of}
-use Rattle.pc_sites.specs.Started.{started, is_unknown}
+use Rattle.pc_names.specs.Sites.{site_of, sites_of}
+use Rattle.pc_names.specs.Started.{started, is_unknown}
 use Rattle.pc_names.specs.Faults.{repeats, own_faults, site_faults, sites_faults, main_faults, pause_faults, faults}
 use Rattle.pc_names.proofs.Members.{split_at, in_split}
 use Rattle.pc_names.proofs.Repeats.{fault, repeats_to, repeats_from, list_any-map, map_split, any_starts, started_at, start_split}
@@ -102,8 +102,8 @@ module _ (items : List Item) (end : ℕ) where
   in_pausing f h = behind_own f (in_right at_sites (again ++ (at_main ++ pausing)) f (in_right again (at_main ++ pausing) f (in_right at_main pausing f h)))
 
   -- a fault at a place
-  at_place : (p : Place) (f : Fault) → Contains (places items) p → Contains (site_faults items (seen p)) f → Contains (faults items end) f
-  at_place p f m h = in_sites f (subst (λ fs. Contains fs f) (sym (sites_flat items (places items))) (flat_in (λ q. site_faults items (seen q)) (places items) p f m h))
+  at_place : (p : Place) (f : Fault) → Contains (places items) p → Contains (site_faults items (site_of p)) f → Contains (faults items end) f
+  at_place p f m h = in_sites f (subst (λ fs. Contains fs f) (sym (sites_flat items (places items))) (flat_in (λ q. site_faults items (site_of q)) (places items) p f m h))
 
   module _ (p : Place) where
     abbrev two : List Fault
@@ -121,22 +121,22 @@ module _ (items : List Item) (end : ℕ) where
     abbrev seven : List Fault
     seven = fault_if (is_start p.role && is_main p.word) (N7, p.word.span)
 
-    at_two : (f : Fault) → Contains two f → Contains (site_faults items (seen p)) f
+    at_two : (f : Fault) → Contains two f → Contains (site_faults items (site_of p)) f
     at_two f h = in_left two (three ++ (four ++ (five ++ seven))) f h
 
-    at_three : (f : Fault) → Contains three f → Contains (site_faults items (seen p)) f
+    at_three : (f : Fault) → Contains three f → Contains (site_faults items (site_of p)) f
     at_three f h = in_right two (three ++ (four ++ (five ++ seven))) f (in_left three (four ++ (five ++ seven)) f h)
 
-    behind_three : (f : Fault) → Contains (four ++ (five ++ seven)) f → Contains (site_faults items (seen p)) f
+    behind_three : (f : Fault) → Contains (four ++ (five ++ seven)) f → Contains (site_faults items (site_of p)) f
     behind_three f h = in_right two (three ++ (four ++ (five ++ seven))) f (in_right three (four ++ (five ++ seven)) f h)
 
-    at_four : (f : Fault) → Contains four f → Contains (site_faults items (seen p)) f
+    at_four : (f : Fault) → Contains four f → Contains (site_faults items (site_of p)) f
     at_four f h = behind_three f (in_left four (five ++ seven) f h)
 
-    at_five : (f : Fault) → Contains five f → Contains (site_faults items (seen p)) f
+    at_five : (f : Fault) → Contains five f → Contains (site_faults items (site_of p)) f
     at_five f h = behind_three f (in_right four (five ++ seven) f (in_left five seven f h))
 
-    at_seven : (f : Fault) → Contains seven f → Contains (site_faults items (seen p)) f
+    at_seven : (f : Fault) → Contains seven f → Contains (site_faults items (site_of p)) f
     at_seven f h = behind_three f (in_right four (five ++ seven) f (in_right five seven f h))
 
   -- ---- what is broken is in the list
@@ -154,9 +154,9 @@ module _ (items : List Item) (end : ℕ) where
 
   again_to : (before after : List Place) (p : Place) → places items ≡ before ++ p ∷ after → is_start p.role ≡ true → list_any (starts_text p.word) before ≡ true → Contains (faults items end) (fault N7 p.word.span)
   again_to before after p is start twice =
-      let words : started (sites_of items) ≡ started (map seen before) ++ p.word ∷ started (map seen after) = ap (λ ps. started (map seen ps)) is ∙ started_at before after p start in
-      let there : is_among p.word (started (map seen before)) ≡ true = sym (any_starts p.word before) ∙ twice in
-      in_again (fault N7 p.word.span) (subst (λ ws. Contains (repeats N7 [] ws) (fault N7 p.word.span)) (sym words) (repeats_to N7 [] (started (map seen before)) (started (map seen after)) p.word there))
+      let words : started (sites_of items) ≡ started (map site_of before) ++ p.word ∷ started (map site_of after) = ap (λ ps. started (map site_of ps)) is ∙ started_at before after p start in
+      let there : is_among p.word (started (map site_of before)) ≡ true = sym (any_starts p.word before) ∙ twice in
+      in_again (fault N7 p.word.span) (subst (λ ws. Contains (repeats N7 [] ws) (fault N7 p.word.span)) (sym words) (repeats_to N7 [] (started (map site_of before)) (started (map site_of after)) p.word there))
 
   main_or_again : (before after : List Place) (p : Place) → places items ≡ before ++ p ∷ after → is_start p.role ≡ true → (t : Bool) → is_main p.word ≡ t → (t || list_any (starts_text p.word) before) ≡ true → Contains (faults items end) (fault N7 p.word.span)
   main_or_again before after p is start true e h =
@@ -256,7 +256,7 @@ module _ (items : List Item) (end : ℕ) where
 
   sites_from : (f : Fault) → Contains at_sites f → B f
   sites_from f h =
-      let s = in_flat (λ q. site_faults items (seen q)) (places items) f (subst (λ fs. Contains fs f) (sites_flat items (places items)) h) in
+      let s = in_flat (λ q. site_faults items (site_of q)) (places items) f (subst (λ fs. Contains fs f) (sites_flat items (places items)) h) in
       let p = s.of in
       place_from p s.listed f (in_either (two p) (three p ++ (four p ++ (five p ++ seven p))) f s.found)
 

@@ -6,16 +6,16 @@ use Rattle.pc_ast.specs.declared.programs.Item.{Item}
 use Rattle.pc_typed.specs.Places.{Place, word_of, is_thread}
 use Rattle.pc_typed.specs.Breaking.{own_of, holds_some_pause}
 use Rattle.pt_base.specs.First.{Fault, fault_if}
-use Rattle.pc_sites.specs.Sites.{seen}
+use Rattle.pc_names.specs.Sites.{site_of}
 use Rattle.pc_names.specs.Faults.{repeats, own_faults, site_faults, sites_faults, pause_faults}
 
 pub own_flat : (items : List Item) → own_faults items ≡ flat_map (λ i. repeats N1 [] (own_of i)) items
 own_flat [] = refl
 own_flat (i ∷ items) = ap (λ fs. repeats N1 [] (own_of i) ++ fs) (own_flat items)
 
-pub sites_flat : (items : List Item) (ps : List Place) → sites_faults items (map seen ps) ≡ flat_map (λ p. site_faults items (seen p)) ps
+pub sites_flat : (items : List Item) (ps : List Place) → sites_faults items (map site_of ps) ≡ flat_map (λ p. site_faults items (site_of p)) ps
 sites_flat items [] = refl
-sites_flat items (p ∷ ps) = ap (λ fs. site_faults items (seen p) ++ fs) (sites_flat items ps)
+sites_flat items (p ∷ ps) = ap (λ fs. site_faults items (site_of p) ++ fs) (sites_flat items ps)
 
 abbrev pub pause_fault : List Item → Item → List Fault
 pause_fault all i = fault_if (not (is_thread all (word_of i)) && holds_some_pause i) (N8, (word_of i).span)

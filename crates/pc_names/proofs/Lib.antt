@@ -1,3 +1,8 @@
+pub mod Sets
+pub mod Looking
+pub mod Walks
+pub mod Seeing
+pub mod Threading
 pub mod Members
 pub mod Repeats
 pub mod Flat
@@ -5,4 +10,5 @@ pub mod Broken
 pub mod Laws
 pub mod Numbering
 pub mod Starts
+pub mod Fitting
 pub mod Making

@@ -1,5 +1,5 @@
--- A function with numbers for names, put together.
-use Rattle.std.proofs.Common.{◌≡◌, ℕ, Bool, List, [], ◌∷◌, ◌++◌, Option, length, sym, ap, ◌∙◌}
+-- A function with numbers for names, put together, and its locals one after another.
+use Rattle.std.proofs.Common.{◌≡◌, ℕ, ◌+◌, Bool, List, [], ◌∷◌, ◌++◌, Option, length, sym, ap, ◌∙◌, append_assoc, length-append, arith}
 use Rattle.pc_ast.specs.declared.expressions.Word.{Word}
 use Rattle.pc_ast.specs.declared.expressions.Expr.{Expr}
 use Rattle.pc_ast.specs.declared.statements.Stmt.{Stmt}
@@ -30,3 +30,25 @@ module _ (all before : List Item) (item : Item) (name : Word) (gives : Bool) (pa
       ∙ ap (λ x. old ++ made name (is_thread all name) gives (numbers_from (length (cells_of before)) parameters) (typed_locals before parameters locals) x value ∷ []) s
       ∙ ap (λ x. old ++ made name (is_thread all name) gives (numbers_from (length (cells_of before)) parameters) (typed_locals before parameters locals) (numbered_statements (cell_number before own) (function_number before) body) x ∷ []) v
       ∙ ap (λ i. old ++ typed_item all before i) (sym is)
+
+-- one more local
+module _ (before : List Item) (own grown : List Word) (p : Word × Option (Expr Word)) (rest behind : List (Word × Option (Expr Word))) where
+  pub local_added : (all added total : List (ℕ × Option (Expr ℕ))) (next : ℕ) (of : Option (Expr ℕ)) → behind ≡ p ∷ rest → grown ≡ own ++ p.0 ∷ [] → added ≡ all ++ (next, of) ∷ [] →
+      next ≡ length (cells_of before) + length own → of ≡ numbered_value (cell_number before own) p.1 → all ++ typed_locals before own behind ≡ total → added ++ typed_locals before grown rest ≡ total
+  local_added all added total next of is grown_is added_is next_is of_is so_far =
+      ap (λ xs. xs ++ typed_locals before grown rest) added_is
+      ∙ append_assoc all ((next, of) ∷ []) (typed_locals before grown rest)
+      ∙ ap (λ n. all ++ (n, of) ∷ typed_locals before grown rest) next_is
+      ∙ ap (λ o. all ++ (length (cells_of before) + length own, o) ∷ typed_locals before grown rest) of_is
+      ∙ ap (λ g. all ++ (length (cells_of before) + length own, numbered_value (cell_number before own) p.1) ∷ typed_locals before g rest) grown_is
+      ∙ ap (λ b. all ++ typed_locals before own b) (sym is)
+      ∙ so_far
+
+  pub local_counted : (next : ℕ) → grown ≡ own ++ p.0 ∷ [] → next ≡ length (cells_of before) + length own → next + 1 ≡ length (cells_of before) + length grown
+  local_counted next grown_is next_is =
+      let more : length grown ≡ length own + 1 = ap length grown_is ∙ length-append own (p.0 ∷ []) in
+      omega (arith, more, next_is)
+
+  pub local_named : (total : List Word) → behind ≡ p ∷ rest → grown ≡ own ++ p.0 ∷ [] → own ++ names_of behind ≡ total → grown ++ names_of rest ≡ total
+  local_named total is grown_is so_far =
+      ap (λ g. g ++ names_of rest) grown_is ∙ append_assoc own (p.0 ∷ []) (names_of rest) ∙ ap (λ b. own ++ names_of b) (sym is) ∙ so_far

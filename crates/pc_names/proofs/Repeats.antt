@@ -11,8 +11,8 @@ use Rattle.pc_typed.specs.Breaking.{starts_text}
 use Rattle.pt_base.specs.First.{Fault, fault_if}
 use Rattle.pt_base.proofs.Elements.{in_none, in_left, in_right, in_either}
 use Rattle.pt_base.proofs.Least.{fault_in, in_fault}
-use Rattle.pc_sites.specs.Sites.{seen}
-use Rattle.pc_sites.specs.Started.{one_if, started}
+use Rattle.pc_names.specs.Sites.{site_of}
+use Rattle.pc_names.specs.Started.{one_if, started}
 use Rattle.pc_names.specs.Faults.{repeats}
 
 -- a broken rule and its place
@@ -90,25 +90,25 @@ one_start : (a : Bool) (name w : Word) → (a && same_text name w) ≡ list_any 
 one_start false name w = refl
 one_start true name w = sym (or_false (same_text name w))
 
-pub any_starts : (name : Word) (ps : List Place) → list_any (starts_text name) ps ≡ is_among name (started (map seen ps))
+pub any_starts : (name : Word) (ps : List Place) → list_any (starts_text name) ps ≡ is_among name (started (map site_of ps))
 any_starts name [] = refl
 any_starts name (p ∷ ps) =
     ap (λ b. b || list_any (starts_text name) ps) (one_start (is_start p.role) name p.word)
     ∙ ap (λ b. list_any (same_text name) (one_if (is_start p.role) p.word) || b) (any_starts name ps)
-    ∙ sym (list_any-append (same_text name) (one_if (is_start p.role) p.word) (started (map seen ps)))
+    ∙ sym (list_any-append (same_text name) (one_if (is_start p.role) p.word) (started (map site_of ps)))
 
-pub started_at : (before after : List Place) (p : Place) → is_start p.role ≡ true → started (map seen (before ++ p ∷ after)) ≡ started (map seen before) ++ p.word ∷ started (map seen after)
-started_at [] after p e = ap (λ b. one_if b p.word ++ started (map seen after)) e
+pub started_at : (before after : List Place) (p : Place) → is_start p.role ≡ true → started (map site_of (before ++ p ∷ after)) ≡ started (map site_of before) ++ p.word ∷ started (map site_of after)
+started_at [] after p e = ap (λ b. one_if b p.word ++ started (map site_of after)) e
 started_at (x ∷ before) after p e =
     ap (λ ws. one_if (is_start x.role) x.word ++ ws) (started_at before after p e)
-    ∙ sym (append_assoc (one_if (is_start x.role) x.word) (started (map seen before)) (p.word ∷ started (map seen after)))
+    ∙ sym (append_assoc (one_if (is_start x.role) x.word) (started (map site_of before)) (p.word ∷ started (map site_of after)))
 
 pub record StartSplit (ps : List Place) (bs : List Word) (w : Word) : Type 0 where
   pub before : List Place
   pub after : List Place
   pub place : Place
   pub is : ps ≡ before ++ place ∷ after
-  pub front : started (map seen before) ≡ bs
+  pub front : started (map site_of before) ≡ bs
   pub starts : is_start place.role ≡ true
   pub names : place.word ≡ w
 
@@ -124,15 +124,15 @@ passed p ps bs cs w e s = record {
   names = s.names;
 }
 
-pub start_split : (ps : List Place) (bs cs : List Word) (w : Word) → started (map seen ps) ≡ bs ++ w ∷ cs → StartSplit ps bs w
+pub start_split : (ps : List Place) (bs cs : List Word) (w : Word) → started (map site_of ps) ≡ bs ++ w ∷ cs → StartSplit ps bs w
 start_split [] [] cs w e = cc
 start_split [] (b ∷ bs) cs w e = cc
 start_split (p ∷ ps) bs cs w e = by_test (is_start p.role) refl bs e (start_split ps)
   where
-    by_test : (t : Bool) → is_start p.role ≡ t → (bs : List Word) → one_if t p.word ++ started (map seen ps) ≡ bs ++ w ∷ cs → ((bs cs : List Word) (w : Word) → started (map seen ps) ≡ bs ++ w ∷ cs → StartSplit ps bs w) → StartSplit (p ∷ ps) bs w
+    by_test : (t : Bool) → is_start p.role ≡ t → (bs : List Word) → one_if t p.word ++ started (map site_of ps) ≡ bs ++ w ∷ cs → ((bs cs : List Word) (w : Word) → started (map site_of ps) ≡ bs ++ w ∷ cs → StartSplit ps bs w) → StartSplit (p ∷ ps) bs w
     by_test true t [] e rec = let m : p.word ≡ w = cc in record { before = []; after = ps; place = p; is = refl; front = refl; starts = t; names = m }
     by_test true t (b ∷ bs) e rec =
-        let r : started (map seen ps) ≡ bs ++ w ∷ cs = cc in
+        let r : started (map site_of ps) ≡ bs ++ w ∷ cs = cc in
         let m : p.word ≡ b = cc in
         passed p ps bs (b ∷ bs) w (ap (λ t. one_if t p.word ++ bs) t ∙ ap (λ v. v ∷ bs) m) (rec bs cs w r)
     by_test false t bs e rec = passed p ps bs bs w (ap (λ t. one_if t p.word ++ bs) t) (rec bs cs w e)

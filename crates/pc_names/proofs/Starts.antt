@@ -26,7 +26,7 @@ below : (n l k : ℕ) (b : Bool) → nat_lt n l ≡ b → cond b (Some n) None �
 below n l k true e h = let same : n ≡ k = cc in let less : n < l = grind (arith, nat_tests) in omega (arith, same, less)
 below n l k false e h = cc
 
-position_within : {A : Type 0} (p : A → Bool) (xs : List A) (k : ℕ) → position p xs ≡ Some k → k < length xs
+pub position_within : {A : Type 0} (p : A → Bool) (xs : List A) (k : ℕ) → position p xs ≡ Some k → k < length xs
 position_within p xs k h = below (position_or_len p xs) (length xs) k (nat_lt (position_or_len p xs) (length xs)) refl h
 
 -- ---- counts

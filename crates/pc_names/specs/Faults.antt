@@ -8,8 +8,8 @@ use Rattle.pc_ast.specs.declared.programs.Item.{Item}
 use Rattle.pc_typed.specs.Places.{word_of, is_among, is_start, is_main, is_thread}
 use Rattle.pc_typed.specs.Breaking.{is_wrong, is_written, is_input, is_miscounted, is_main_item, is_named_main, main_place, own_of, holds_some_pause}
 use Rattle.pt_base.specs.First.{Fault, fault_if}
-use Rattle.pc_sites.specs.Sites.{Seen, sites_of}
-use Rattle.pc_sites.specs.Started.{is_unknown, started}
+use Rattle.pc_names.specs.Sites.{Site, sites_of}
+use Rattle.pc_names.specs.Started.{is_unknown, started}
 
 -- ---- names that stand there a second time
 
@@ -23,7 +23,7 @@ own_faults (i ∷ rest) = repeats N1 [] (own_of i) ++ own_faults rest
 
 -- ---- at a place
 
-abbrev pub site_faults : List Item → Seen → List Fault
+abbrev pub site_faults : List Item → Site → List Fault
 site_faults items s =
     fault_if (is_unknown s.found) (N2, s.word.span)
     ++ (fault_if (is_wrong items s.role s.found) (N3, s.word.span)
@@ -31,7 +31,7 @@ site_faults items s =
     ++ (fault_if (is_miscounted s.role s.found) (N5, s.word.span)
     ++ fault_if (is_start s.role && is_main s.word) (N7, s.word.span))))
 
-abbrev pub sites_faults : List Item → List Seen → List Fault
+abbrev pub sites_faults : List Item → List Site → List Fault
 sites_faults items [] = []
 sites_faults items (s ∷ rest) = site_faults items s ++ sites_faults items rest
 

@@ -1,5 +1,9 @@
+pub mod Equal
+pub mod Rest
+pub mod Sites
+pub mod Started
 pub mod Faults
-pub mod Found
+pub mod Names
 pub mod Known
 pub mod Chains
 pub mod Resolving

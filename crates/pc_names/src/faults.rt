@@ -4,8 +4,9 @@ ghost use Rattle.pc_typed.specs.Places.{word_of, names_of};
 ghost use Rattle.pt_base.specs.First.{first_of};
 ghost use Rattle.pc_names.specs.Faults.{repeats, own_faults};
 
+use crate::names::Names;
+use crate::sites::name_of;
 use pc_ast::{Expr, Item, Word};
-use pc_sites::{Names, name_of};
 use pt_base::{First, Memory, Rule};
 use std::alloc::Global;
 
@@ -21,8 +22,8 @@ pub fn note_repeats<'a>(
     let mut before = Names::new(alloc);
     let mut so_far = first;
     for word in words {
-        so_far = so_far.note_if(before.contains(word), rule, word.span);
-        before = before.with(word)?;
+        let is_new = before.insert(word)?;
+        so_far = so_far.note_if(!is_new, rule, word.span);
     }
     Ok(so_far)
 }

@@ -1,24 +1,17 @@
 ghost use Rattle.std.specs.Prelude.{◌≡◌, None, [], IfOk, find};
 ghost use Rattle.std.specs.List.{list_any};
 ghost use Rattle.pc_typed.specs.Breaking as breaking;
-ghost use Rattle.pc_sites.specs.Started.{started};
+ghost use Rattle.pc_names.specs.Started.{started};
 ghost use Rattle.pt_base.specs.First.{first_of};
 ghost use Rattle.pc_names.specs.Faults.{repeats, site_faults, sites_faults, pause_faults, faults};
-ghost use Rattle.pc_names.specs.Found.{IsFound};
 
 use crate::faults::{note_items_twice, note_own_twice, note_repeats};
+use crate::sites::{Site, all_sites, name_of};
+use crate::threads::{Threads, is_main, started_words};
 use pc_ast::Item;
-use pc_sites::{Site, Threads, all_sites, is_main, name_of, started_words};
 use pc_typed::hold_pauses;
 use pt_base::{First, Memory, Rule, Span};
 use std::alloc::Global;
-
-/// A broken rule, and its place.
-#[derive(Clone, Copy)]
-pub struct Fault {
-    pub rule: Rule,
-    pub span: Span,
-}
 
 /// Notes what is broken at a place.
 fn note_site(first: First, threads: &Threads<'_>, site: &Site<'_>) -> First
@@ -112,10 +105,22 @@ fn note_pauses(first: First, threads: &Threads<'_>, items: &[Item]) -> First
     so_far
 }
 
-/// The first of all faults of the items.
+/// The first of all faults, and the threads that were found for it.
+#[derive(Drop)]
+pub struct FirstFault<'a> {
+    pub first: First,
+    pub threads: Threads<'a>,
+}
+
+/// The first of all faults of the items, and the threads that were found.
 #[tactic(auto, unfolding(crate::specs::Faults::faults))]
-fn noted(alloc: Global, items: &[Item], length: u32) -> Result<First, Memory>
-    ensures { IfOk result (λ found. found ≡ first_of None (faults items.now length)) }
+pub fn first_fault<'a>(
+    alloc: Global,
+    items: &'a [Item],
+    length: u32,
+) -> Result<FirstFault<'a>, Memory>
+    ensures found { IfOk result (λ fault. fault.first ≡ first_of None (faults items.now length)) }
+    ensures threads { IfOk result (λ fault. fault.threads ≡ items.now) }
 {
     let sites = all_sites(alloc, items)?;
     let threads = Threads::of(alloc, items, &sites)?;
@@ -124,16 +129,6 @@ fn noted(alloc: Global, items: &[Item], length: u32) -> Result<First, Memory>
     let at_sites = note_sites(own_twice, &threads, &sites);
     let started_twice = note_started_twice(alloc, at_sites, &sites)?;
     let with_main = started_twice.note_if(!has_main(items), Rule::N6, main_place(items, length));
-    Ok(note_pauses(with_main, &threads, items))
-}
-
-/// The first rule on names that the items break, with its place.
-pub fn first_fault(alloc: Global, items: &[Item], length: u32) -> Result<Option<Fault>, Memory>
-    ensures { IfOk result (λ found. IsFound items.now length found) }
-{
-    let first = noted(alloc, items, length)?;
-    match first.found() {
-        Some((rule, span)) => Ok(Some(Fault { rule, span })),
-        None => Ok(None),
-    }
+    let first = note_pauses(with_main, &threads, items);
+    Ok(FirstFault { first, threads })
 }

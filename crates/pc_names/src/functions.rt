@@ -1,12 +1,15 @@
-ghost use Rattle.std.specs.Prelude.{◌≡◌, ◌+◌, ◌++◌, [], OnOk, IfOk, map, length};
+ghost use Rattle.std.specs.Prelude.{◌≡◌, ◌+◌, ◌<◌, ◌^◌, ◌++◌, [], OnOk, IfOk, length};
 ghost use Rattle.pc_typed.specs.Places as places;
-ghost use Rattle.pc_typed.specs.Typing.{cells_of, cell_number, function_number, numbered_value, numbers_from, typed_locals, typed_item, typed_from};
-ghost use Rattle.pc_names.specs.Chains.{numbered_statements};
+ghost use Rattle.pc_typed.specs.Breaking.{own_of};
+ghost use Rattle.pc_typed.specs.Typing.{cells_of, numbers_from, typed_locals, typed_item, typed_from};
+ghost use Rattle.pc_names.specs.Names.{AreOnce, CanBeNumbered};
 
-use crate::known::{Known, sum};
+use crate::known::Known;
+use crate::names::Names;
+use crate::scopes::Scope;
+use crate::threads::Threads;
 use crate::trees::{statements, value};
-use pc_ast::{Expr, Item, Stmt, Word};
-use pc_sites::{Names, Threads, all_names};
+use pc_ast::{Expr, Item, Word};
 use pc_typed::Function;
 use pt_base::{Memory, Text};
 use sqlite_items::Items;
@@ -22,15 +25,28 @@ fn copy(alloc: Global, word: &Word) -> Result<Word, Memory>
 }
 
 fn parameter_cells(alloc: Global, first: u32, parameters: &[Word]) -> Result<Items<u32>, Memory>
+    requires { first + length parameters.now < 2 ^ 32 }
     ensures { IfOk result (λ all. all ≡ numbers_from first parameters.now) }
 {
     let mut all = Items::new(alloc);
     let mut next = first;
     for _word in parameters {
         all.push(next)?;
-        next = sum(next, 1)?;
+        next += 1;
     }
     Ok(all)
+}
+
+/// The names of parameters.
+fn parameter_names<'a>(alloc: Global, parameters: &'a [Word]) -> Result<Names<'a>, Memory>
+    requires { AreOnce parameters.now }
+    ensures { IfOk result (λ names. names ≡ parameters.now) }
+{
+    let mut names = Names::new(alloc);
+    for word in parameters {
+        names = names.with(word)?;
+    }
+    Ok(names)
 }
 
 /// The names that a function declares.
@@ -39,9 +55,10 @@ fn own_names<'a>(
     parameters: &'a [Word],
     locals: &'a [(Word, Option<Expr<Word>>)],
 ) -> Result<Names<'a>, Memory>
+    requires { AreOnce (parameters.now ++ places.names_of locals.now) }
     ensures { IfOk result (λ names. names ≡ parameters.now ++ places.names_of locals.now) }
 {
-    let mut names = all_names(alloc, parameters)?;
+    let mut names = parameter_names(alloc, parameters)?;
     for (word, _) in locals {
         names = names.with(word)?;
     }
@@ -54,16 +71,18 @@ fn local_cells(
     parameters: &[Word],
     locals: &[(Word, Option<Expr<Word>>)],
 ) -> Result<Items<(u32, Option<Expr<u32>>)>, Memory>
+    requires once { AreOnce (parameters.now ++ places.names_of locals.now) }
+    requires fit { length (cells_of known.now) + length (parameters.now ++ places.names_of locals.now) < 2 ^ 32 }
     ensures { IfOk result (λ all. all ≡ typed_locals known.now parameters.now locals.now) }
 {
     let mut all = Items::new(alloc);
-    let mut own = all_names(alloc, parameters)?;
-    let mut next = sum(known.cell_count(), parameters.len())?;
+    let mut own = parameter_names(alloc, parameters)?;
+    let mut next = known.cell_count() + parameters.len() as u32;
     for (name, of) in locals {
-        let of = value(alloc, known, &own, of)?;
+        let of = value(alloc, &Scope::of(known, &own), of)?;
         all.push((next, of))?;
         own = own.with(name)?;
-        next = sum(next, 1)?;
+        next += 1;
     }
     Ok(all)
 }
@@ -75,6 +94,8 @@ fn add_function(
     known: &Known<'_>,
     item: &Item,
 ) -> Result<(), Memory>
+    requires once { AreOnce (own_of item.now) }
+    requires fit { length (cells_of known.now) + length (own_of item.now) < 2 ^ 32 }
     ensures { OnOk result (functions.new.items ≡ functions.old.items ++ typed_item threads.now known.now item.now) }
 {
     let Item::Function {
@@ -91,27 +112,33 @@ fn add_function(
     let parameters = parameters.as_slice();
     let locals = locals.as_slice();
     let own = own_names(alloc, parameters, locals)?;
+    let scope = Scope::of(known, &own);
     functions.push(Function {
         name: copy(alloc, name)?,
         thread: threads.is_thread(name),
         gives: *gives,
         parameters: parameter_cells(alloc, known.cell_count(), parameters)?,
         locals: local_cells(alloc, known, parameters, locals)?,
-        body: statements(alloc, known, &own, body.as_slice())?,
-        result: value(alloc, known, &own, result)?,
+        body: statements(alloc, &scope, body.as_slice())?,
+        result: value(alloc, &scope, result)?,
     })?;
     Ok(())
 }
 
 /// The functions of the items, in the order of the text.
-pub fn functions(alloc: Global, items: &[Item]) -> Result<Vec<Function>, Memory>
+pub fn functions(
+    alloc: Global,
+    items: &[Item],
+    threads: &Threads<'_>,
+) -> Result<Vec<Function>, Memory>
+    requires threads { threads.now ≡ items.now }
+    requires numbered { CanBeNumbered items.now }
     ensures { IfOk result (λ functions. functions.items ≡ typed_from items.now [] items.now) }
 {
-    let threads = Threads::of_items(alloc, items)?;
     let mut functions = Vec::new(alloc);
     let mut known = Known::none(alloc, items);
     for (place, item) in items.iter().enumerate() {
-        add_function(alloc, &mut functions, &threads, &known, item)?;
+        add_function(alloc, &mut functions, threads, &known, item)?;
         known = known.with(items, place)?;
     }
     Ok(functions)

@@ -1,47 +1,37 @@
-ghost use Rattle.std.specs.Prelude.{◌≡◌, ◌+◌, ◌<◌, [], ◌∷◌, IfOk, length, take, slice_get, unwrap_or};
-ghost use Rattle.pc_typed.specs.Typing.{item_cells, cells_of, until, functions_in, cell_number, function_number};
+ghost use Rattle.std.specs.Prelude.{◌≡◌, ◌+◌, ◌<◌, ◌^◌, [], ◌∷◌, IfOk, length, take, slice_get, unwrap_or};
+ghost use Rattle.pc_typed.specs.Typing.{item_cells, cells_of, until, functions_in, function_number};
+ghost use Rattle.pc_names.specs.Names.{CanBeNumbered};
 
+use crate::names::Names;
+use crate::sites::name_of;
 use pc_ast::{Item, Word};
-use pc_sites::{Names, name_of};
 use pt_base::Memory;
 use std::alloc::Global;
 use std::marker::Model;
 
-/// The sum. Where it isn't a number of 32 bits, the answer is want of memory: no store has so many cells.
-pub fn sum(count: u32, more: usize) -> Result<u32, Memory>
-    ensures { IfOk result (λ n. n ≡ count + more) }
-{
-    let room = u32::MAX - count;
-    if more > room as usize {
-        return Err(Memory);
-    }
-    Ok(count + more as u32)
-}
-
 /// The number of cells with those of one more item.
-fn cells_with(count: u32, item: &Item) -> Result<u32, Memory>
-    ensures { IfOk result (λ n. n ≡ count + length (item_cells item.now)) }
+fn cells_with(count: u32, item: &Item) -> u32
+    requires { count + length (item_cells item.now) < 2 ^ 32 }
+    ensures { result ≡ count + length (item_cells item.now) }
 {
     match item {
-        Item::Scalar { .. } | Item::Array { .. } => sum(count, 1),
+        Item::Scalar { .. } | Item::Array { .. } => count + 1,
         Item::Function {
             parameters,
             locals,
             ..
-        } => {
-            let count = sum(count, parameters.len())?;
-            sum(count, locals.len())
-        }
+        } => count + parameters.len() as u32 + locals.len() as u32,
     }
 }
 
 /// The number of functions with one more item.
-pub fn functions_with(count: u32, item: &Item) -> Result<u32, Memory>
-    ensures { IfOk result (λ n. n ≡ count + functions_in (item.now ∷ [])) }
+pub fn functions_with(count: u32, item: &Item) -> u32
+    requires { count + functions_in (item.now ∷ []) < 2 ^ 32 }
+    ensures { result ≡ count + functions_in (item.now ∷ []) }
 {
     match item {
-        Item::Function { .. } => sum(count, 1),
-        _ => Ok(count),
+        Item::Function { .. } => count + 1,
+        _ => count,
     }
 }
 
@@ -99,6 +89,7 @@ impl<'a> Known<'a> {
 
     /// With one more item.
     pub fn with(self, items: &'a [Item], place: usize) -> Result<Known<'a>, Memory>
+        requires numbered { CanBeNumbered items.now }
         requires inside { place < length items.now }
         requires before { self ≡ take place items.now }
         ensures { IfOk result (λ known. known ≡ take (place + 1) items.now) }
@@ -115,8 +106,8 @@ impl<'a> Known<'a> {
         let names = names.with(name_of(item))?;
         cells.push(cell_count)?;
         functions.push(function_count)?;
-        let cell_count = cells_with(cell_count, item)?;
-        let function_count = functions_with(function_count, item)?;
+        let cell_count = cells_with(cell_count, item);
+        let function_count = functions_with(function_count, item);
         Ok(Known {
             before: &items[..place + 1],
             names,
@@ -135,26 +126,16 @@ impl<'a> Known<'a> {
     }
 
     /// The number of the first cell of the first item of this name.
-    fn item_cell(&self, name: &Word) -> u32
+    pub fn item_cell(&self, name: &Word) -> u32
         ensures { result ≡ length (cells_of (until name.now self.now)) }
     {
-        start_at(&self.cells, self.names.place(name))
-    }
-
-    /// The number of the cell of this name, where the parameters and locals have these names.
-    pub fn cell(&self, own: &Names<'_>, name: &Word) -> Result<u32, Memory>
-        ensures { IfOk result (λ n. n ≡ cell_number self.now own.now name.now) }
-    {
-        match own.place(name) {
-            Some(place) => sum(self.cell_count, place),
-            None => Ok(self.item_cell(name)),
-        }
+        start_at(&self.cells, self.names.number(name))
     }
 
     /// The number of the function of this name.
     pub fn function(&self, name: &Word) -> u32
         ensures { result ≡ function_number self.now name.now }
     {
-        start_at(&self.functions, self.names.place(name))
+        start_at(&self.functions, self.names.number(name))
     }
 }

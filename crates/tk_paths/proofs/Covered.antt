@@ -97,7 +97,7 @@ pub all-flat-in : {X Y : Type 0} (P : Y → Type 0) (f : X → List Y) (xs : Lis
 all-flat-in P f [] h = tt
 all-flat-in P f (x ∷ xs) h = all-append P (f x) (flat_map f xs) (h x (inl refl)) (all-flat-in P f xs (λ y k. h y (inr k)))
 
-among-picked : {X : Type 0} (p : X → Bool) (xs : List X) (x : X) → IsAmong x (filter p xs) → IsAmong x xs × (p x ≡ true)
+pub among-picked : {X : Type 0} (p : X → Bool) (xs : List X) (x : X) → IsAmong x (filter p xs) → IsAmong x xs × (p x ≡ true)
 among-picked p [] x h = absurd h
 among-picked {X} p (y ∷ ys) x h = by (p y) refl h (λ k. among-picked p ys x k)
   where

@@ -31,7 +31,7 @@ use Rattle.tk_paths.specs.Tight as tight
 use Rattle.tk_paths.specs.Regions.{to, behind, half, word_place, IsUnit, extra, units_cost, through}
 use Rattle.tk_paths.specs.Greatest.{stays, where_some, best, num, handlers, resting, grouping, ended, IsStraight, IsGreatestWith, IsStraightCondition, tested, paused, ending_sum, pausing_sum, joined, waited_by, waited, IsGreatest}
 use Rattle.tk_paths.specs.Greatest as written
-use Rattle.tk_paths.proofs.Opens.{numbers-same}
+use Rattle.tk_paths.proofs.Lines.{numbers-same}
 use Rattle.tk_paths.proofs.MaxPlus.{Sums, Gives, Given, greater-is, plus-is, more-is, all-ends-is, most-paused-is, ends-given, pauses-given}
 use Rattle.tk_paths.proofs.Moves.{joined-leads}
 use Rattle.tk_paths.proofs.Units.{jump-step, taken-step, untaken-step, cend-step, word-lead, unit-lead, units-lead}

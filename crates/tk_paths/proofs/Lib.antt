@@ -1,4 +1,5 @@
 pub mod Flags
+pub mod Lines
 pub mod Opens
 pub mod Ways
 pub mod Exacts
@@ -14,3 +15,18 @@ pub mod MaxPlus
 pub mod Greatest
 pub mod Covered
 pub mod Rested
+pub mod Places
+pub mod UnitLaws
+pub mod Insides
+pub mod RegionLaws
+pub mod Entered
+pub mod CodeLaws
+pub mod Weights
+pub mod Starts
+pub mod Sections
+pub mod SlotLaws
+pub mod Accepting
+pub mod ProgramLaws
+pub mod Ranges
+pub mod CodeRanges
+pub mod CountLaws

@@ -1,5 +1,5 @@
 -- The open places of a certificate, as the proofs of the bound see them.
-use Rattle.std.proofs.Common.{◌≡◌, ◌==◌, ◌&&◌, ℕ, Bool, true, false, nat_le, if◌then◌else◌, reverse, List, [], ◌∷◌, length, refl, ap, ◌∙◌, arith}
+use Rattle.std.proofs.Common.{◌≡◌, ◌==◌, ◌&&◌, ℕ, Bool, true, false, nat_le, if◌then◌else◌, reverse, List, [], length, refl, ap, ◌∙◌, arith}
 use Rattle.std.proofs.lemmas.Bool.Decides.{nat_tests}
 use Rattle.pt_image.specs.Listed.{same_numbers}
 use Rattle.pt_image.specs.declared.Parts.{Parts}
@@ -12,6 +12,7 @@ use Rattle.tk_bound.proofs.Conditions as kinds
 use Rattle.tk_bound.proofs.Carried.{kind_of, image_of, cert_of, thread-kind}
 use Rattle.tk_bound.proofs.Turns.{reverse-none}
 use Rattle.tk_paths.specs.Reached.{IsOpen}
+use Rattle.tk_paths.proofs.Lines.{numbers-same}
 
 abbrev slot_in : kinds.Line → ℕ
 slot_in (Thread s a l) = s
@@ -20,10 +21,6 @@ slot_in other = 0
 abbrev stack_in : kinds.Line → List ℕ
 stack_in (Thread s a l) = a
 stack_in other = []
-
-pub numbers-same : (a : List ℕ) → same_numbers a a ≡ true
-numbers-same [] = refl
-numbers-same (x ∷ a) = let e : (x == x) ≡ true = grind (arith, nat_tests) in ap (λ b. b && same_numbers a a) e ∙ numbers-same a
 
 bare-thread : (s : ℕ) (a : List ℕ) → Bare ≡ Thread s a [] → ⊥
 bare-thread s a e = cc

@@ -29,7 +29,7 @@ use Rattle.tk_bound.proofs.Lists.{IsAmong, all-map, index-among, three_parts}
 use Rattle.tk_bound.proofs.Accepts.{nothing}
 use Rattle.tk_paths.specs.Reached.{IsOpen}
 use Rattle.tk_paths.specs.Greatest.{stays, num, handlers, resting, grouping, IsGreatestWith, IsGreatest}
-use Rattle.tk_paths.proofs.Opens.{numbers-same}
+use Rattle.tk_paths.proofs.Lines.{numbers-same}
 use Rattle.tk_paths.proofs.Covered.{Covers, holds-of, through, greater-left, greater-right, more-covers, plus-covers, staying, all-append, all-flat-in, Holding, weak-hold}
 
 range-among : (n low k : ℕ) → IsAmong k (range_with_len low n) → (low ≤ k) × (k < low + n)

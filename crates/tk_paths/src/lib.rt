@@ -1,13 +1,19 @@
 //! The paths behind the numbers of a certificate: where each number is one that acceptance asks of it, exactly, there is a
 //! free tick that costs just the bound.
 //!
-//! Read `Passages`, `Reached`, `Tight`, `Regions` and `Greatest` in `specs/` in this order; `docs/bounds.md`, "Tight certificates" to
-//! "Greatest numbers", says the same in words. The functions below do nothing: their contracts are the theorems.
+//! And the certificate of a program, whose numbers are told from how its code lies in the image: it is accepted, and its bound is
+//! the worst.
+//!
+//! Read `Passages`, `Reached`, `Tight`, `Regions`, `Greatest`, `Codes`, `Numbers`, `Programs` and `Counts` in `specs/` in this order;
+//! `docs/bounds.md`, "Tight certificates" to "Programs", says the same in words. The functions below do nothing: their contracts are
+//! the theorems.
 #![tactic(auto)]
 
 ghost use Rattle.tk_paths.specs.Tight.{TightIsWorst};
 ghost use Rattle.tk_paths.specs.Greatest.{BeginningsAreCovered, GreatestIsWorst, RestsAreCovered};
 ghost use Rattle.tk_paths.specs.Regions.{RegionsAreCrossed, RegionsArePassages};
+ghost use Rattle.tk_paths.specs.Programs.{ProgramBoundsAreWorst, ProgramsAreAccepted};
+ghost use Rattle.tk_paths.specs.Counts.{NumbersAreCounted};
 
 /// The bound of a certificate that is accepted and tight is the worst of its image: some free tick costs just as much, and
 /// none costs more.
@@ -40,4 +46,20 @@ pub fn greatest_numbers_cover_beginnings()
 /// Where the shape of a certificate holds as well, such numbers hold the conditions of acceptance on pauses and forks.
 pub fn greatest_numbers_cover_rests()
     ensures { RestsAreCovered }
+{}
+
+/// The certificate of a program, with any walk, is accepted whatever the words cost, and its numbers are the greatest.
+pub fn a_program_is_accepted()
+    ensures { ProgramsAreAccepted }
+{}
+
+/// So its bound is the worst of the image.
+pub fn a_program_bound_is_worst()
+    ensures { ProgramBoundsAreWorst }
+{}
+
+/// And no number of it is greater than a count of the program's words: so the certificate can be written down, and the bound is
+/// within what a walk may cost, where these counts are small enough.
+pub fn a_program_is_counted()
+    ensures { NumbersAreCounted }
 {}

@@ -1,0 +1,5 @@
+pub mod Meant
+pub mod Placing
+pub mod Cells
+pub mod Few
+pub mod Laws

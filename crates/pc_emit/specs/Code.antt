@@ -103,7 +103,9 @@ module _ (writing : Writing) where
       code (branch test a b) stack child at =
           joined (tested test at (at + test_size writing test + size writing a + 2))
           (joined (code a stack child (at + test_size writing test))
-          (joined (just (jump Bri (at + test_size writing test + size writing a) (at + test_size writing test + size writing a + 2 + size writing b)))
+          (joined (just (jump Bri
+          (at + test_size writing test + size writing a)
+          (at + test_size writing test + size writing a + 2 + size writing b)))
           (code b stack (child + length (threads_of a)) (at + test_size writing test + size writing a + 2))))
       code (turns test body) stack child at =
           joined (option_tested test at (at + option_size writing test + size writing body + 2))
@@ -112,7 +114,9 @@ module _ (writing : Writing) where
       code (bounded most test body) stack child at =
           joined (just (loop_words most))
           (joined (just (Next (short (at + loop_size most + 1 + option_size writing test + size writing body + 2 + drop_size test)) ∷ []))
-          (joined (option_tested test (at + loop_size most + 1) (at + loop_size most + 1 + option_size writing test + size writing body + 2))
+          (joined (option_tested test
+          (at + loop_size most + 1)
+          (at + loop_size most + 1 + option_size writing test + size writing body + 2))
           (joined (code body stack child (at + loop_size most + 1 + option_size writing test))
           (joined (just (jump Bri (at + loop_size most + 1 + option_size writing test + size writing body) (at + loop_size most)))
           (just (drop_words test))))))

@@ -24,7 +24,8 @@ use std::alloc::Global;
 fn put_condition(out: &mut Draft, placement: Placement, test: &Test) -> Result<(), Memory>
     requires room { IsPlacement placement }
     requires written { IsTrue (is_test_written placement test.now) }
-    ensures { OnOk result (out.new ≡ joined out.old (just (instrs (test_words placement test.now) ++ Cend (test_register placement test.now) ∷ []))) }
+    ensures { OnOk result (out.new ≡
+        joined out.old (just (instrs (test_words placement test.now) ++ Cend (test_register placement test.now) ∷ []))) }
 {
     out.push_test(placement, test)?;
     let ra = register(placement, test);

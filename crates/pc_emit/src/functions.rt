@@ -59,7 +59,9 @@ fn put_function(
     requires slots { slots.now ≡ slots_of (flow_read flow.now) }
     requires few { length slots.now ≤ 64 }
     requires written { NodeWritten (writing_of placement) (read node.now) }
-    ensures { OnOk result (out.new ≡ joined out.old (function_code (writing_of placement) entrances.now slots.now (first_started (flow_read flow.now)) (slot_of slots.now number) (read node.now) (length out.old.words))) }
+    ensures { OnOk result (out.new ≡
+        joined out.old (function_code (writing_of placement) entrances.now slots.now (first_started (flow_read flow.now))
+        (slot_of slots.now number) (read node.now) (length out.old.words))) }
 {
     let slot = slot_of(slots, number);
     let own = slot.unwrap_or(0);
@@ -92,7 +94,9 @@ pub fn put_functions(
     requires slots { slots.now ≡ slots_of (flow_read flow.now) }
     requires few { length slots.now ≤ 64 }
     requires written { AllByRecursion (NodeWritten (writing_of placement)) (flow_read flow.now).bodies }
-    ensures { OnOk result (out.new ≡ joined out.old (functions_code (writing_of placement) entrances.now slots.now (first_started (flow_read flow.now)) 0 (flow_read flow.now).bodies (length out.old.words))) }
+    ensures { OnOk result (out.new ≡
+        joined out.old (functions_code (writing_of placement) entrances.now slots.now (first_started (flow_read flow.now))
+        0 (flow_read flow.now).bodies (length out.old.words))) }
 {
     for (number, node) in flow.bodies.iter().enumerate() {
         put_function(alloc, out, placement, entrances, slots, flow, number, node)?;

@@ -84,7 +84,8 @@ fn parts(alloc: Global, flow: &Flow, placement: Placement) -> Result<Parts, Memo
     requires room { IsPlacement placement }
     requires few { length (slots_of (flow_read flow.now)) ≤ 64 }
     requires written { FlowWritten (writing_of placement) (flow_read flow.now) }
-    ensures { IfOk result (λ parts. parts ≡ image_of (writing_of placement) (flow_read flow.now) (memory_words placement - placement.cells)) }
+    ensures { IfOk result (λ parts. parts ≡
+        image_of (writing_of placement) (flow_read flow.now) (memory_words placement - placement.cells)) }
 {
     let slots = slots(alloc, &flow.bodies, flow.main)?;
     let entrances = entrances(alloc, placement, &flow.bodies)?;
@@ -113,8 +114,10 @@ fn parts(alloc: Global, flow: &Flow, placement: Placement) -> Result<Parts, Memo
 /// of its aborts. Its cells, temporaries and held words stand where the placement says.
 pub fn emit(alloc: Global, flow: &Flow, placement: Placement) -> Result<Image, Memory>
     requires room { IsPlacement placement }
-    requires fits { (placing : Placing) × CanBeEmitted (flow_read flow.now) (writing_of placement) placing (memory_words placement - placement.cells) }
-    ensures { IfOk result (λ image. image ≡ image_of (writing_of placement) (flow_read flow.now) (memory_words placement - placement.cells)) }
+    requires fits { (placing : Placing)
+        × CanBeEmitted (flow_read flow.now) (writing_of placement) placing (memory_words placement - placement.cells) }
+    ensures { IfOk result (λ image. image ≡
+        image_of (writing_of placement) (flow_read flow.now) (memory_words placement - placement.cells)) }
 {
     let parts = parts(alloc, flow, placement)?;
     Ok(Image::of(parts))

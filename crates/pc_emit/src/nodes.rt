@@ -108,8 +108,11 @@ fn bounded_places(
     requires test { OptionWritten (writing_of placement) test.now }
     requires body { NodeWritten (writing_of placement) (read body.now) }
     ensures head { IfOk result (λ places. places.0 ≡ at + loop_size most) }
-    ensures other { IfOk result (λ places. places.1 ≡ at + loop_size most + 1 + option_size (writing_of placement) test.now + size (writing_of placement) (read body.now) + 2) }
-    ensures end { IfOk result (λ places. places.2 ≡ at + loop_size most + 1 + option_size (writing_of placement) test.now + size (writing_of placement) (read body.now) + 2 + drop_size test.now) }
+    ensures other { IfOk result (λ places. places.1 ≡
+        at + loop_size most + 1 + option_size (writing_of placement) test.now + size (writing_of placement) (read body.now) + 2) }
+    ensures end { IfOk result (λ places. places.2 ≡
+        at + loop_size most + 1 + option_size (writing_of placement) test.now + size (writing_of placement) (read body.now) + 2
+        + drop_size test.now) }
 {
     let head = sum(at, loop_size(most))?;
     let inner = sum(sum(head, 1)?, option_size(alloc, placement, test)?)?;
@@ -152,7 +155,8 @@ pub fn put_node(
 ) -> Result<usize, Memory>
     requires room { IsPlacement placement }
     requires written { NodeWritten (writing_of placement) (read node.now) }
-    ensures part { OnOk result (out.new ≡ joined out.old (code (writing_of placement) entrances.now slot (read node.now) stack.now child (length out.old.words))) }
+    ensures part { OnOk result (out.new ≡
+        joined out.old (code (writing_of placement) entrances.now slot (read node.now) stack.now child (length out.old.words))) }
     ensures next { IfOk result (λ next. next ≡ child + length (threads_of (read node.now))) }
 {
     match node {

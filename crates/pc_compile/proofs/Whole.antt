@@ -1,0 +1,159 @@
+-- A lowered flow can be emitted, and its image is what the program compiles to.
+use Rattle.std.proofs.Common.{◌≡◌, ℕ, ◌+◌, ◌-◌, ◌<◌, ◌≤◌, max, Bool, List, [], ◌∷◌, map, length, refl, sym, ap, subst, ◌∙◌, arith}
+use Rattle.std.specs.Prelude.{FitsSigned, slice_index_or, Result, Ok, Err, IfOk}
+use Rattle.std.specs.Int.{w32}
+use Rattle.std.specs.List.{AllByRecursion}
+use Rattle.std.proofs.lemmas.List.{length-map}
+use Rattle.mb_isa.specs.Costs.{IsCosts}
+use Rattle.pt_image.specs.declared.image.Parts.{Parts}
+use Rattle.pc_typed.specs.Typing.{Typing}
+use Rattle.pc_typed.specs.Keeping.{IsTyped}
+use Rattle.pc_rules.specs.Judging.{IsWithin}
+use Rattle.pc_meaning.specs.Programs.{program_of}
+use Rattle.pc_ir.specs.Flow.{Flow}
+use Rattle.pc_lower.specs.Counts.{BodiesWithin, ConditionsWithin, bodies_words, conditions_words}
+use Rattle.pc_region.specs.Laid.{Placing}
+use Rattle.pc_region.specs.Words.{Writing}
+use Rattle.pc_region.specs.Numbering.{slots_of, parent_of}
+use Rattle.pc_region.specs.Image.{IsImageOf}
+use Rattle.pc_region.specs.Runs.{RunLaws}
+use Rattle.pc_region.specs.Layable.{CanBeLaid}
+use Rattle.pc_region.proofs.Sizing.{counts}
+use Rattle.pc_flows.specs.Placing.{typed_flow, placing_of}
+use Rattle.pc_flows.specs.Few.{WritesFew, sizes_for}
+use Rattle.pc_flows.specs.Meant.{DoesWhatIsMeant}
+use Rattle.pc_flows.proofs.Laid.{can-be-laid}
+use Rattle.pc_flows.proofs.Declared.{declared-words}
+use Rattle.pc_flows.proofs.Order.{flow-in-order}
+use Rattle.pc_flows.proofs.Program.{fit}
+use Rattle.pc_flows.proofs.Rooms.{keeps-cells, inputs-below, outputs-below}
+use Rattle.pc_flows.proofs.Within.{limits, words-less, inputs-few, outputs-few, declared-few}
+use Rattle.pc_flows.proofs.Whole.{does-what-is-meant}
+use Rattle.pc_region.specs.Laws.{Agree}
+use Rattle.pc_regs.specs.declared.placement.Placement.{Placement}
+use Rattle.pc_regs.specs.Placement.{memory_words, IsPlacement}
+use Rattle.pc_regs.specs.Words.{writing_of}
+use Rattle.pc_regs.specs.Represents.{compared}
+use Rattle.pc_regs.specs.Assignment.{placement_of}
+use Rattle.pc_regs.specs.Laws.{WordsDoTheSteps, WordsAreWork, WordsAreFew}
+use Rattle.pc_emit.specs.Image.{entrances_of, image_of}
+use Rattle.pc_emit.specs.Fits.{placed, CanBeEmitted, AreSizes}
+use Rattle.pc_emit.specs.Laws.{AFlowIsLaidOut, ALaidFlowIsInItsRanges, ALaidFlowListsAll}
+use Rattle.pc_emit.specs.Eots.{ListsAll}
+use Rattle.pc_compile.specs.Compiled.{Compiles}
+use Rattle.pc_compile.proofs.Lowered.{IsLowered}
+use Rattle.pc_compile.proofs.Written.{flow-written, temporaries-few}
+use Rattle.pc_flows.proofs.Numbers.{pauses-many, forks-many, aborts-many-are}
+use Rattle.pc_compile.proofs.Sizes.{writes-few, code-less}
+
+-- of the flow of a program itself
+module _ (t : Typing) (typed : IsTyped t) (within : IsWithin t)
+    (bodies : BodiesWithin 652 (typed_flow t).bodies) (conditions : ConditionsWithin 652 (typed_flow t).aborts) (work : WordsAreWork) (few : WordsAreFew) where
+  abbrev f : Flow
+  f = typed_flow t
+
+  abbrev p : Placement
+  p = placement_of f
+
+  abbrev writing : Writing
+  writing = writing_of p
+
+  abbrev further : ℕ
+  further = memory_words p - p.cells
+
+  abbrev placing : Placing
+  placing = placing_of t (λ g. slice_index_or (entrances_of writing f) g 0)
+
+  abbrev image : Parts
+  image = image_of writing f further
+
+  short : WritesFew writing
+  short = writes-few few p
+
+  room : IsPlacement p
+  room = record {
+    memory = let a = declared-few t typed within in let b = temporaries-few f bodies conditions in omega (arith, a, b);
+    held = omega arith;
+  }
+
+  can-be-emitted : CanBeEmitted f writing placing further
+  can-be-emitted = record {
+    laid = can-be-laid t typed within (λ g. slice_index_or (entrances_of writing f) g 0);
+    work = work p room;
+    written = flow-written f bodies conditions (keeps-cells t typed);
+    code = let a = code-less writing short f in let b = words-less t typed within writing short in omega (arith, a, b);
+    memory = let a = declared-few t typed within in let b = temporaries-few f bodies conditions in omega (arith, a, b);
+    declared = declared-words t typed;
+    inputs = (inputs-few t typed within, inputs-below t typed);
+    outputs = (outputs-few t typed within, outputs-below t typed);
+  }
+
+  module _ (steps : WordsDoTheSteps) (laid : AFlowIsLaidOut) (ranged : ALaidFlowIsInItsRanges) (listed : ALaidFlowListsAll) where
+    sizes-are : AreSizes f writing (sizes_for writing f.bodies)
+    sizes-are = record {
+      words = λ q. omega arith;
+      test_words = λ q. omega arith;
+      counts = counts _ _ f.bodies (flow-in-order (program_of t) (fit t typed within));
+    }
+
+    is-image : (costs : List ℕ) → IsCosts costs → IsImageOf (parent_of f) image costs f writing (sizes_for writing f.bodies) (placed f writing placing)
+    is-image costs priced = laid f writing placing further (sizes_for writing f.bodies) costs can-be-emitted sizes-are priced
+
+    run-laws : RunLaws image f writing (Agree (compared p))
+    run-laws = steps p image f room (record {
+      count = refl;
+      words = declared-words t typed;
+      memory = refl;
+      inputs = refl;
+      outputs = refl;
+      inputs_are_cells = inputs-below t typed;
+      outputs_are_cells = outputs-below t typed;
+    })
+
+    faithful : DoesWhatIsMeant (program_of t) image
+    faithful =
+        does-what-is-meant (program_of t) (fit t typed within) (parent_of f) image writing (sizes_for writing f.bodies) (placed f writing placing)
+        is-image (limits t typed within writing short image refl refl) (Agree (compared p)) run-laws
+
+    lists : ListsAll f image
+    lists = listed f writing placing further can-be-emitted
+
+    compiles : Compiles t image
+    compiles = record {
+      ranges = (ranged f writing placing further can-be-emitted).0;
+      words = (ranged f writing placing further can-be-emitted).1;
+      inputs = refl;
+      outputs = refl;
+      slots = length-map (slots_of f) _;
+      pauses = lists.pauses ∙ pauses-many t typed within;
+      places = lists.places;
+      forks = lists.forks ∙ forks-many t typed within;
+      aborts = lists.aborts ∙ aborts-many-are t typed within;
+      faithful = faithful;
+    }
+
+-- of a flow that is that of a program
+module _ (t : Typing) (g : Flow) (low : IsLowered t g) (work : WordsAreWork) (few : WordsAreFew) where
+  bodies-there : BodiesWithin 652 (typed_flow t).bodies
+  bodies-there = subst (λ x. BodiesWithin 652 x.bodies) low.same low.bodies
+
+  conditions-there : ConditionsWithin 652 (typed_flow t).aborts
+  conditions-there = subst (λ x. ConditionsWithin 652 x.aborts) low.same low.conditions
+
+  pub has-room : IsPlacement (placement_of g)
+  has-room = subst (λ x. IsPlacement (placement_of x)) (sym low.same) (room t low.typed low.within bodies-there conditions-there work few)
+
+  pub is-emitted : (placing : Placing) × CanBeEmitted g (writing_of (placement_of g)) placing (memory_words (placement_of g) - (placement_of g).cells)
+  is-emitted =
+      subst (λ x. (placing : Placing) × CanBeEmitted x (writing_of (placement_of x)) placing (memory_words (placement_of x) - (placement_of x).cells)) (sym low.same)
+      (placing t low.typed low.within bodies-there conditions-there work few, can-be-emitted t low.typed low.within bodies-there conditions-there work few)
+
+  pub is-compiled : WordsDoTheSteps → AFlowIsLaidOut → ALaidFlowIsInItsRanges → ALaidFlowListsAll → Compiles t (image_of (writing_of (placement_of g)) g (memory_words (placement_of g) - (placement_of g).cells))
+  is-compiled steps laid ranged listed =
+      subst (λ x. Compiles t (image_of (writing_of (placement_of x)) x (memory_words (placement_of x) - (placement_of x).cells))) (sym low.same)
+      (compiles t low.typed low.within bodies-there conditions-there work few steps laid ranged listed)
+
+-- what holds of an image holds of what is given, if anything is
+pub given : {A E : Type 0} (r : Result A E) (P : A → Type 0) (x : A) → IfOk r (λ y. y ≡ x) → P x → IfOk r P
+given (Ok y) P x is h = subst P (sym is) h
+given (Err e) P x is h = tt

@@ -1,0 +1,16 @@
+pub mod Lists
+pub mod Numbers
+pub mod Lengths
+pub mod Stands
+pub mod Made
+pub mod Laying
+pub mod Starting
+pub mod Entrances
+pub mod Conditions
+pub mod Whole
+pub mod Codes
+pub mod Places
+pub mod Ranges
+pub mod Numbered
+pub mod Bodies
+pub mod Eots

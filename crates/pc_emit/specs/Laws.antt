@@ -1,0 +1,33 @@
+-- What is proved of the layout.
+use Rattle.std.specs.Prelude.{ℕ, List}
+use Rattle.mb_isa.specs.Costs.{IsCosts}
+use Rattle.pt_image.specs.Form.{AreWords}
+use Rattle.pt_image.specs.Ranges.{IsImage}
+use Rattle.pc_ir.specs.Flow.{Flow}
+use Rattle.pc_region.specs.Laid.{Placing}
+use Rattle.pc_region.specs.Counts.{Sizes}
+use Rattle.pc_region.specs.Words.{Writing}
+use Rattle.pc_region.specs.Image.{IsImageOf}
+use Rattle.pc_region.specs.Numbering.{parent_of}
+use Rattle.pc_emit.specs.Image.{image_of}
+use Rattle.pc_emit.specs.Eots.{ListsAll}
+use Rattle.pc_emit.specs.Fits.{placed, CanBeEmitted, AreSizes}
+
+-- The image of a flow holds the flow.
+abbrev pub AFlowIsLaidOut : Type 0
+AFlowIsLaidOut =
+    (f : Flow) (writing : Writing) (placing : Placing) (further : ℕ) (sizes : Sizes) (costs : List ℕ) →
+    CanBeEmitted f writing placing further → AreSizes f writing sizes → IsCosts costs →
+    IsImageOf (parent_of f) (image_of writing f further) costs f writing sizes (placed f writing placing)
+
+-- It is within the ranges of an image, and each of its words has 32 bits.
+abbrev pub ALaidFlowIsInItsRanges : Type 0
+ALaidFlowIsInItsRanges =
+    (f : Flow) (writing : Writing) (placing : Placing) (further : ℕ) →
+    CanBeEmitted f writing placing further → IsImage (image_of writing f further) × AreWords (image_of writing f further)
+
+-- Its lists have all that the flow has, and its pauses are at the `eot` words of its code.
+abbrev pub ALaidFlowListsAll : Type 0
+ALaidFlowListsAll =
+    (f : Flow) (writing : Writing) (placing : Placing) (further : ℕ) →
+    CanBeEmitted f writing placing further → ListsAll f (image_of writing f further)

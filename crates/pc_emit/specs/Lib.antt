@@ -1,0 +1,6 @@
+pub mod Part
+pub mod Code
+pub mod Image
+pub mod Fits
+pub mod Eots
+pub mod Laws

@@ -1,0 +1,21 @@
+//! The image of a flow: its words and its lists, laid out.
+//!
+//! `emit` gives the image that `specs/Image.antt` defines: the functions in the order of the text, each with the word that closes
+//! it, and behind them the conditions of the aborts. `specs/Code.antt` says which words and list entries a node has at a place;
+//! how many words it takes is worked out first, so each place is known when it is written. It stands on any placement of
+//! `pc_regs`; what it asks of the flow is `CanBeEmitted` of `specs/Fits.antt`. The laws are for every writing of `pc_region`: that
+//! image holds the flow, is within the ranges of an image, and lists all that the flow has.
+#![tactic(auto)]
+
+mod aborts;
+mod branches;
+mod draft;
+mod functions;
+mod image;
+mod laws;
+mod nodes;
+mod sizes;
+mod slots;
+
+pub use image::emit;
+pub use laws::{a_flow_is_laid_out, a_laid_flow_is_in_its_ranges, a_laid_flow_lists_all};

@@ -49,6 +49,6 @@ returns c =
       compiled =
           given c.emit.result (Compiles c.args.typed.now) _ c.emit.ensures
           (subst (λ p. Compiles c.args.typed.now (image_of (writing_of p) flow (memory_words p - p.cells))) (sym c.assign-placement.ensures)
-          (is-compiled c.args.typed.now flow low c.words_are_work.ensures c.words_are_few.ensures c.words_do_the_steps.ensures 
+          (is-compiled c.args.typed.now flow low c.words_are_work.ensures c.words_are_few.ensures c.words_do_the_steps.ensures
           c.a_flow_is_laid_out.ensures c.a_laid_flow_is_in_its_ranges.ensures c.a_laid_flow_lists_all.ensures));
     }

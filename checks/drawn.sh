@@ -1,6 +1,7 @@
 #!/usr/bin/env bash
 # Drawn programs of every construct, always the same ones: `go` and `mean` of the built program tell the same outputs of each
-# tick; and programs near the limits of the language, of which that is so too.
+# tick, and `run` reports as `go` does under a bound that the walk of its certificate costs; and programs near the limits of the
+# language, of which that is so too.
 set -u
 . "$(dirname "${BASH_SOURCE[0]}")/common/program.bash"
 python3 - "$program" <<'PYTHON' || failed=1
@@ -123,7 +124,7 @@ def called(words, trace):
 
 
 def agree(name, text, trace):
-    """Whether the program is accepted, and then told alike."""
+    """Whether the program is accepted, and then told alike and certified."""
     with open("drawn.pc", "w") as file:
         file.write(text)
     status, meaning = called(["mean", "drawn.pc"], trace)
@@ -133,6 +134,14 @@ def agree(name, text, trace):
     told = re.sub(r" worst \d+$", "", re.sub(r" cycles \d+$", "", report[1], flags=re.M), flags=re.M)
     if (status, report[0], told) != (0, 0, meaning):
         print("FAILED: %s: `go` with status %d and `mean` with status %d don't tell the same" % (name, report[0], status))
+        print(text)
+        sys.exit(1)
+    ran = called(["run", "drawn.pc", "-", "im", "ce"], trace)
+    bound = ran[1].split("\n", 1)[0]
+    checked = called(["check", "im", "ce", "-"], "")
+    again = called(["exec", "im", "ce", "-"], trace)
+    if ran != (0, "%s\n%s" % (bound, report[1])) or checked != (0, "yes %s reached\n" % bound) or again != ran:
+        print("FAILED: %s: `run` with status %d and %s, of which `check` says %s" % (name, ran[0], bound, checked[1].strip()))
         print(text)
         sys.exit(1)
     return True

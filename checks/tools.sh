@@ -56,6 +56,13 @@ refused "waves: short has 3 lines and $example.report has 8 ticks: they aren't o
 { cat "$example.pc"; echo 'ReactiveOutput int more = 0;'; } >two.pc
 refused "waves: $example.report has 1 outputs and two.pc has 2: they aren't of one program" waves two.pc "$example.trace" "$example.report"
 
+# the listing of an image
+"$top/tools/listing" "$top/examples/pictures/weak.im" >list 2>err; status=$?
+[ "$status" = 0 ] && [ ! -s err ] && cmp -s list "$top/examples/pictures/weak.list" || wrong "listing of weak"
+refused "usage: tools/listing IMAGE" listing
+refused "listing: missing can't be read: No such file or directory" listing missing
+refused "listing: $example.report doesn't begin with the line \`ARPRET 1\`, or its last line has no end" listing "$example.report"
+
 # the graph of an image: the worked example under two tables of costs, forks, loops and calls, and a walk without a cost
 weak="$top/examples/pictures/weak"
 "$top/tools/graph" "$weak.im" "$weak.cert" - >dot 2>err; status=$?

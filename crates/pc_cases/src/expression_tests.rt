@@ -1,56 +1,8 @@
-use pc_lex::lex;
-use pc_parse::whole_expression;
-use pc_print::put_expression;
-use pt_base::{MOST_SOURCE_BYTES, Memory, Text};
+use crate::reading::{Seen, first_other, shows};
+use crate::sources::{LEVELS, nested};
+use pt_base::Refusal;
 use std::alloc::{AllocError, Global};
 use std::test::Fail;
-
-/// The canonical text of the expression that a text spells, or none where it spells none.
-fn printed(alloc: Global, bytes: &[u8]) -> Result<Option<Vec<u8>>, Memory> {
-    let text = Text::of(alloc, bytes)?;
-    if bytes.len() > MOST_SOURCE_BYTES as usize {
-        return Ok(None);
-    }
-    let Ok(tokens) = lex(alloc, &text) else {
-        return Ok(None);
-    };
-    let Ok(e) = whole_expression(alloc, &text, tokens.tokens.items()) else {
-        return Ok(None);
-    };
-    let mut out = Vec::new(alloc);
-    put_expression(&mut out, &e)?;
-    Ok(Some(out))
-}
-
-/// Whether a text is printed as this one.
-fn prints(alloc: Global, text: &[u8], wanted: &[u8]) -> Result<bool, Memory> {
-    match printed(alloc, text)? {
-        Some(out) => Ok(out.as_slice() == wanted),
-        None => Ok(false),
-    }
-}
-
-/// Whether a row `TEXT => CANONICAL` is so, and its canonical text its own, or `TEXT => refused`.
-fn row_is_so(alloc: Global, row: &str) -> Result<bool, Memory> {
-    let Some((text, wanted)) = row.split_once(" => ") else {
-        return Ok(false);
-    };
-    if wanted == "refused" {
-        return Ok(printed(alloc, text.as_bytes())?.is_none());
-    }
-    let first = prints(alloc, text.as_bytes(), wanted.as_bytes())?;
-    Ok(first && prints(alloc, wanted.as_bytes(), wanted.as_bytes())?)
-}
-
-/// The first row that isn't so, or an empty text.
-fn first_wrong<'a>(alloc: Global, rows: &'a str) -> Result<&'a str, Memory> {
-    for row in rows.lines() {
-        if !row_is_so(alloc, row)? {
-            return Ok(row);
-        }
-    }
-    Ok("")
-}
 
 const EXPRESSIONS: &str = "((x)) => x
 0x1F => 31
@@ -81,38 +33,36 @@ a/ /**/ b => a / b
 
 #[test]
 fn expressions_have_one_text(rt: HostRuntime) -> Result<(), Fail> {
-    assert_eq!(rt; first_wrong(rt.alloc(), EXPRESSIONS)?, "");
+    assert_eq!(rt; first_other(rt.alloc(), Seen::Canonical, EXPRESSIONS)?, "");
     Ok(())
 }
 
-/// The operators, a line for each level, the loosest first.
-const LEVELS: &str = "||
-&&
-|
-^
-&
-== !=
-< <= > >=
-<< >>
-+ -
-* / %";
+/// The text, without its brackets where they go.
+fn put_text(out: &mut Vec<u8>, text: &str, go: bool) -> Result<(), AllocError> {
+    for byte in text.as_bytes() {
+        if !go || (*byte != b'(' && *byte != b')') {
+            out.push(*byte)?;
+        }
+    }
+    Ok(())
+}
+
+/// Whether a text is printed as it stands, or without its brackets.
+fn is_printed(alloc: Global, text: &str, bare: bool) -> Result<bool, Refusal> {
+    let mut wanted = Vec::new(alloc);
+    put_text(&mut wanted, text, bare)?;
+    shows(alloc, Seen::Canonical, text.as_bytes(), &wanted)
+}
 
 /// Whether `a ONE (b TWO c)` and `(a TWO b) ONE c` lose their brackets where TWO is tighter, and else keep them.
-fn nests(alloc: Global, one: &str, two: &str, tighter: bool) -> Result<bool, Memory> {
-    let behind = format!(in alloc; "a {} (b {} c)", one, two)?;
-    let before = format!(in alloc; "(a {} b) {} c", two, one)?;
-    if !tighter {
-        let kept = prints(alloc, behind.as_bytes(), behind.as_bytes())?;
-        return Ok(kept && prints(alloc, before.as_bytes(), before.as_bytes())?);
-    }
-    let bare = format!(in alloc; "a {} b {} c", one, two)?;
-    let behind_bare = prints(alloc, behind.as_bytes(), bare.as_bytes())?;
-    let bare = format!(in alloc; "a {} b {} c", two, one)?;
-    Ok(behind_bare && prints(alloc, before.as_bytes(), bare.as_bytes())?)
+fn nests(alloc: Global, one: &str, two: &str, tighter: bool) -> Result<bool, Refusal> {
+    let behind = format!(in alloc; "a {one} (b {two} c)")?;
+    let before = format!(in alloc; "(a {two} b) {one} c")?;
+    Ok(is_printed(alloc, &behind, tighter)? && is_printed(alloc, &before, tighter)?)
 }
 
 /// Whether an operator of this level nests with each as it should.
-fn nests_with_each(alloc: Global, level: usize, one: &str) -> Result<bool, Memory> {
+fn nests_with_each(alloc: Global, level: usize, one: &str) -> Result<bool, Refusal> {
     for (other, operators) in LEVELS.lines().enumerate() {
         for two in operators.split_whitespace() {
             if !nests(alloc, one, two, level < other)? {
@@ -124,7 +74,7 @@ fn nests_with_each(alloc: Global, level: usize, one: &str) -> Result<bool, Memor
 }
 
 /// How many operators nest with each as they should.
-fn nesting(alloc: Global) -> Result<u32, Memory> {
+fn nesting(alloc: Global) -> Result<u32, Refusal> {
     let mut count = 0u32;
     for (level, operators) in LEVELS.lines().enumerate() {
         for one in operators.split_whitespace() {
@@ -142,25 +92,6 @@ fn each_operator_in_each_other(rt: HostRuntime) -> Result<(), Fail> {
     Ok(())
 }
 
-/// The front so many times, the middle, and the back so many times.
-fn nested(
-    alloc: Global,
-    count: u32,
-    front: &str,
-    middle: &str,
-    back: &str,
-) -> Result<Vec<u8>, AllocError> {
-    let mut all = Vec::new(alloc);
-    for _ in 0..count {
-        all.extend_from_slice(front.as_bytes())?;
-    }
-    all.extend_from_slice(middle.as_bytes())?;
-    for _ in 0..count {
-        all.extend_from_slice(back.as_bytes())?;
-    }
-    Ok(all)
-}
-
 /// Whether so deep a text is its own canonical text.
 fn is_canonical(
     alloc: Global,
@@ -168,9 +99,9 @@ fn is_canonical(
     front: &str,
     middle: &str,
     back: &str,
-) -> Result<bool, Memory> {
-    let text = nested(alloc, count, front, middle, back)?;
-    prints(alloc, &text, &text)
+) -> Result<bool, Refusal> {
+    let text = nested(alloc, count, ["", front, middle, back, ""])?;
+    shows(alloc, Seen::Canonical, text.as_bytes(), text.as_bytes())
 }
 
 #[test]

@@ -1,8 +1,8 @@
-//! Tests of the front over whole sources, row by row: trees, places of refusal, numbers of names, canonical texts; and of
+//! Tests of the front over whole sources, row by row: trees, places of refusal, numbers of names and canonical texts; and of
 //! the meaning: what whole programs show tick by tick.
 //!
-//! `printed` keeps the tree to itself, for the tests here and above. It promises nothing, so that a test knows no more of
-//! a source than what it compares.
+//! There is nothing here but tests and what they call. The helpers promise nothing, so that a test knows no more of a source
+//! than what it compares.
 #![tactic(auto)]
 
 #[cfg(test)]
@@ -20,7 +20,8 @@ mod place_tests;
 #[cfg(test)]
 mod print_tests;
 #[cfg(test)]
+mod reading;
+#[cfg(test)]
 mod shown;
-mod texts;
-
-pub use texts::printed;
+#[cfg(test)]
+mod sources;

@@ -1,153 +1,141 @@
+use crate::sources::{nested, put_numbered};
 use pc_verdict::judged;
-use pt_base::{Memory, Refusal, Text};
-use std::alloc::Global;
+use pt_base::{Refusal, Rule, Span, Text};
+use std::alloc::{AllocError, Global};
 use std::test::Fail;
 
-/// Whether a source keeps every rule, or the first that it breaks.
-fn checked(alloc: Global, source: &[u8]) -> Result<(), Refusal> {
+/// The rule that a source breaks first, and its place; nothing where it keeps every rule.
+fn broken(alloc: Global, source: &[u8]) -> Result<Option<(Rule, Span)>, Refusal> {
     match judged(alloc, &Text::of(alloc, source)?) {
-        Ok(_) => Ok(()),
-        Err(refusal) => Err(refusal),
+        Ok(_) => Ok(None),
+        Err(Refusal::Broken { rule, span }) => Ok(Some((rule, span))),
+        Err(Refusal::Memory) => Err(Refusal::Memory),
     }
 }
 
-/// `kept`, or the rule that a source breaks first with its place, as `RULE FROM TO`.
-fn verdict(alloc: Global, source: &[u8]) -> Result<String, Memory> {
-    match checked(alloc, source) {
-        Ok(()) => Ok(String::from_str(alloc, "kept")?),
-        Err(Refusal::Broken { rule, span }) => {
-            Ok(format!(in alloc; "{:?} {} {}", rule, span.from, span.to)?)
-        }
-        Err(Refusal::Memory) => Err(Memory),
-    }
+/// Whether a source keeps every rule.
+fn keeps(alloc: Global, source: &[u8]) -> Result<bool, Refusal> {
+    Ok(broken(alloc, source)?.is_none())
 }
 
-/// The front so many times, the middle, and the back so many times, between the head and the tail.
-fn nested(
-    alloc: Global,
-    count: u32,
-    head: &str,
-    front: &str,
-    middle: &str,
-    back: &str,
-    tail: &str,
-) -> Result<Vec<u8>, Memory> {
-    let mut all = Vec::new(alloc);
-    all.extend_from_slice(head.as_bytes())?;
-    for _ in 0..count {
-        all.extend_from_slice(front.as_bytes())?;
-    }
-    all.extend_from_slice(middle.as_bytes())?;
-    for _ in 0..count {
-        all.extend_from_slice(back.as_bytes())?;
-    }
-    all.extend_from_slice(tail.as_bytes())?;
-    Ok(all)
+/// Whether a source breaks this rule first, there.
+fn breaks(alloc: Global, source: &[u8], rule: Rule, from: u32, to: u32) -> Result<bool, Refusal> {
+    Ok(broken(alloc, source)? == Some((rule, Span { from, to })))
 }
 
-/// The verdict on so many aborts in one another, before these statements.
-fn aborts(alloc: Global, count: u32, behind: &str) -> Result<String, Memory> {
-    let source = nested(
-        alloc,
-        count,
+/// So many aborts in one another, before these statements.
+fn aborts(alloc: Global, count: u32, behind: &str) -> Result<String, AllocError> {
+    let parts = [
         "void main() { ",
         "abort ",
         "EOT; ",
         "when pre (1); ",
         behind,
-    )?;
-    verdict(alloc, &source)
+    ];
+    nested(alloc, count, parts)
+}
+
+/// Whether the source with nine aborts in one another, before these statements, breaks this rule first, there.
+fn nine_break(alloc: Global, behind: &str, rule: Rule, from: u32) -> Result<bool, Refusal> {
+    let source = aborts(alloc, 9, behind)?;
+    breaks(alloc, source.as_bytes(), rule, from, from.saturating_add(5))
+}
+
+fn eight_keep(alloc: Global) -> Result<bool, Refusal> {
+    let source = aborts(alloc, 8, "}")?;
+    keeps(alloc, source.as_bytes())
 }
 
 #[test]
 fn rules_on_loops_come_before_limits(rt: HostRuntime) -> Result<(), Fail> {
-    let alloc = rt.alloc();
-    assert_eq!(rt; aborts(alloc, 8, "}")?.as_str(), "kept");
-    assert_eq!(rt; aborts(alloc, 9, "}")?.as_str(), "Z4 62 67");
-    assert_eq!(rt; aborts(alloc, 9, "while (0) ; }")?.as_str(), "E1 199 204");
+    assert!(rt; eight_keep(rt.alloc())?);
+    assert!(rt; nine_break(rt.alloc(), "}", Rule::Z4, 62)?);
+    assert!(rt; nine_break(rt.alloc(), "while (0) ; }", Rule::E1, 199)?);
     Ok(())
 }
 
-/// The front, a number and the back, for each number below the count.
-fn numbered(
-    alloc: Global,
-    out: &mut Vec<u8>,
-    count: u32,
-    front: &str,
-    back: &str,
-) -> Result<(), Memory> {
-    for n in 0..count {
-        let one = format!(in alloc; "{}{}{}", front, n, back)?;
-        out.extend_from_slice(one.as_bytes())?;
-    }
-    Ok(())
+fn put_threads(out: &mut String, count: u32) -> Result<(), AllocError> {
+    put_numbered(out, count, "void t", "(){}")?;
+    out.push_str("void main(){")?;
+    put_numbered(out, count, "PAR(t", ");")?;
+    out.push_str("}")
 }
 
-/// The verdict on a program with so many threads beside `main`.
-fn threads(alloc: Global, count: u32) -> Result<String, Memory> {
-    let mut source = Vec::new(alloc);
-    numbered(alloc, &mut source, count, "void t", "(){}")?;
-    source.extend_from_slice(b"void main(){")?;
-    numbered(alloc, &mut source, count, "PAR(t", ");")?;
-    source.push(b'}')?;
-    verdict(alloc, &source)
+/// A program with so many threads beside `main`.
+fn threads(alloc: Global, count: u32) -> Result<String, AllocError> {
+    let mut source = String::new(alloc);
+    put_threads(&mut source, count)?;
+    Ok(source)
 }
 
-/// The verdict on a program with so many of these items.
-fn items(alloc: Global, count: u32, front: &str, back: &str) -> Result<String, Memory> {
-    let mut source = Vec::new(alloc);
-    numbered(alloc, &mut source, count, front, back)?;
-    source.extend_from_slice(b"void main(){}")?;
-    verdict(alloc, &source)
+/// A program with so many of these items.
+fn items(alloc: Global, count: u32, front: &str) -> Result<String, AllocError> {
+    let mut source = String::new(alloc);
+    put_numbered(&mut source, count, front, "=0;")?;
+    source.push_str("void main(){}")?;
+    Ok(source)
+}
+
+/// Whether 63 threads beside `main` are kept, and one more is refused.
+fn threads_are_64(alloc: Global) -> Result<bool, Refusal> {
+    let kept = keeps(alloc, threads(alloc, 63)?.as_bytes())?;
+    Ok(kept && breaks(alloc, threads(alloc, 64)?.as_bytes(), Rule::Z2, 1337, 1337)?)
+}
+
+/// Whether 64 of these items are kept, and one more is refused at the end of the source.
+fn items_are_64(alloc: Global, front: &str, end: u32) -> Result<bool, Refusal> {
+    let kept = keeps(alloc, items(alloc, 64, front)?.as_bytes())?;
+    Ok(
+        kept && breaks(
+            alloc,
+            items(alloc, 65, front)?.as_bytes(),
+            Rule::Z9,
+            end,
+            end,
+        )?,
+    )
 }
 
 #[test]
 fn threads_inputs_and_outputs_have_their_limit(rt: HostRuntime) -> Result<(), Fail> {
-    let alloc = rt.alloc();
-    assert_eq!(rt; threads(alloc, 63)?.as_str(), "kept");
-    assert_eq!(rt; threads(alloc, 64)?.as_str(), "Z2 1337 1337");
-    assert_eq!(rt;
-        items(alloc, 64, "ReactiveInput int a", "=0;")?.as_str(),
-        "kept"
-    );
-    assert_eq!(rt;
-        items(alloc, 65, "ReactiveInput int a", "=0;")?.as_str(),
-        "Z9 1563 1563"
-    );
-    assert_eq!(rt;
-        items(alloc, 64, "ReactiveOutput int a", "=0;")?.as_str(),
-        "kept"
-    );
-    assert_eq!(rt;
-        items(alloc, 65, "ReactiveOutput int a", "=0;")?.as_str(),
-        "Z9 1628 1628"
-    );
+    assert!(rt; threads_are_64(rt.alloc())?);
+    assert!(rt; items_are_64(rt.alloc(), "ReactiveInput int a", 1563)?);
+    assert!(rt; items_are_64(rt.alloc(), "ReactiveOutput int a", 1628)?);
     Ok(())
 }
 
-/// The verdict on an empty `main` behind so many blanks.
-fn blanks(alloc: Global, count: u32) -> Result<String, Memory> {
-    let source = nested(alloc, count, "", " ", "void main(){}", "", "")?;
-    verdict(alloc, &source)
+/// An empty `main` behind so many blanks.
+fn blanks(alloc: Global, count: u32) -> Result<String, AllocError> {
+    nested(alloc, count, ["", " ", "void main(){}", "", ""])
+}
+
+/// Whether a source of 1,048,576 bytes is kept, and one more byte is refused.
+fn bytes_are_limited(alloc: Global) -> Result<bool, Refusal> {
+    let kept = keeps(alloc, blanks(alloc, 1_048_563)?.as_bytes())?;
+    let end = 1_048_576;
+    Ok(
+        kept && breaks(
+            alloc,
+            blanks(alloc, 1_048_564)?.as_bytes(),
+            Rule::Z1,
+            end,
+            end,
+        )?,
+    )
 }
 
 #[test]
 fn sources_have_their_limit(rt: HostRuntime) -> Result<(), Fail> {
-    let alloc = rt.alloc();
-    assert_eq!(rt; blanks(alloc, 1_048_563)?.as_str(), "kept");
-    assert_eq!(rt; blanks(alloc, 1_048_564)?.as_str(), "Z1 1048576 1048576");
+    assert!(rt; bytes_are_limited(rt.alloc())?);
     Ok(())
 }
 
 #[test]
 fn tokens_and_grammar_come_first(rt: HostRuntime) -> Result<(), Fail> {
     let alloc = rt.alloc();
-    assert_eq!(rt; verdict(alloc, b"void main() { EOT")?.as_str(), "S1 17 17");
-    assert_eq!(rt;
-        verdict(alloc, b"void main() { EOT $")?.as_str(),
-        "L1 18 19"
-    );
-    assert_eq!(rt; verdict(alloc, b"int 4294967296;")?.as_str(), "L2 4 14");
-    assert_eq!(rt; verdict(alloc, b"/* int x;")?.as_str(), "L3 0 2");
+    assert!(rt; breaks(alloc, b"void main() { EOT", Rule::S1, 17, 17)?);
+    assert!(rt; breaks(alloc, b"void main() { EOT $", Rule::L1, 18, 19)?);
+    assert!(rt; breaks(alloc, b"int 4294967296;", Rule::L2, 4, 14)?);
+    assert!(rt; breaks(alloc, b"/* int x;", Rule::L3, 0, 2)?);
     Ok(())
 }

@@ -6,7 +6,7 @@ use pt_base::{Many, Memory, Refusal, Text};
 use std::alloc::Global;
 use std::test::Fail;
 
-// The outputs of a program's ticks, one tick after another, for rows of inputs.
+// The outputs of an accepted program's ticks, one tick after another, for rows of inputs.
 fn shown(alloc: Global, typed: &Typed, rows: &[Many<i32>]) -> Result<Vec<i32>, Memory> {
     let ticks = meaning_of(alloc, typed, rows)?;
     let mut all = Vec::new(alloc);
@@ -16,12 +16,20 @@ fn shown(alloc: Global, typed: &Typed, rows: &[Many<i32>]) -> Result<Vec<i32>, M
     Ok(all)
 }
 
+fn shown_of(alloc: Global, text: &Text, rows: &[Many<i32>]) -> Result<Vec<i32>, Refusal> {
+    let accepted = judged(alloc, text)?;
+    Ok(shown(alloc, &accepted.typed, rows)?)
+}
+
+fn row_of(alloc: Global, inputs: &[i32]) -> Result<Many<i32>, Memory> {
+    Ok(Many::of(inputs.to_vec(alloc)?))
+}
+
 // Rows of one input each.
 fn rows_of(alloc: Global, inputs: &[i32]) -> Result<Vec<Many<i32>>, Memory> {
     let mut rows = Vec::new(alloc);
     for input in inputs {
-        let row = vec![in alloc; *input; 1]?;
-        rows.push(Many::of(row))?;
+        rows.push(row_of(alloc, &[*input])?)?;
     }
     Ok(rows)
 }
@@ -30,18 +38,15 @@ fn rows_of(alloc: Global, inputs: &[i32]) -> Result<Vec<Many<i32>>, Memory> {
 fn pairs_of(alloc: Global, inputs: &[(i32, i32)]) -> Result<Vec<Many<i32>>, Memory> {
     let mut rows = Vec::new(alloc);
     for (first, second) in inputs {
-        let mut row = vec![in alloc; *first; 1]?;
-        row.push(*second)?;
-        rows.push(Many::of(row))?;
+        rows.push(row_of(alloc, &[*first, *second])?)?;
     }
     Ok(rows)
 }
 
 // Whether a program that is accepted shows this on these rows.
 fn shows(alloc: Global, text: &[u8], rows: &[Many<i32>], outputs: &[i32]) -> Result<bool, Refusal> {
-    let accepted = judged(alloc, &Text::of(alloc, text)?)?;
-    let all = shown(alloc, &accepted.typed, rows)?;
-    Ok(all.as_slice() == outputs)
+    let text = Text::of(alloc, text)?;
+    Ok(shown_of(alloc, &text, rows)?.as_slice() == outputs)
 }
 
 // The same of a program with one input, or with none, which passes over the numbers.
@@ -51,7 +56,8 @@ fn shows_on(alloc: Global, text: &[u8], inputs: &[i32], outputs: &[i32]) -> Resu
 }
 
 const SHARED: &[u8] =
-    b"ReactiveOutput int o = 0; ReactiveOutput int p = 0; int x = 0; void f() { x = 1; EOT; } void g() { p = x; x = 2; EOT; } void main() { PAR(f, g); o = x; }";
+    b"ReactiveOutput int o = 0; ReactiveOutput int p = 0; int x = 0; void f() { x = 1; EOT; }
+void g() { p = x; x = 2; EOT; } void main() { PAR(f, g); o = x; }";
 
 const JOINED: &[u8] =
     b"ReactiveOutput int o = 0; void f() { EOT; } void g() { EOT; EOT; } void main() { PAR(f, g); o = 1; }";
@@ -63,17 +69,19 @@ fn threads_run_in_the_order_of_the_text(rt: HostRuntime) -> Result<(), Fail> {
     Ok(())
 }
 
-const WEAK: &[u8] =
-    b"ReactiveInput int a = 0; ReactiveOutput int o = 0; void main() { while (1) { weak abort { o = o + 1; EOT; o = o + 2; EOT; } when pre (a); o = o + 10; } }";
+const WEAK: &[u8] = b"ReactiveInput int a = 0; ReactiveOutput int o = 0;
+void main() { while (1) { weak abort { o = o + 1; EOT; o = o + 2; EOT; } when pre (a); o = o + 10; } }";
 
-const WEAK_IN_STRONG: &[u8] =
-    b"ReactiveInput int a = 0; ReactiveOutput int o = 0; void main() { abort { weak abort { EOT; o = o + 1; EOT; } when pre (a); o = o + 10; EOT; } when pre (a); o = o + 100; }";
+const WEAK_IN_STRONG: &[u8] = b"ReactiveInput int a = 0; ReactiveOutput int o = 0;
+void main() { abort { weak abort { EOT; o = o + 1; EOT; } when pre (a); o = o + 10; EOT; } when pre (a);
+o = o + 100; }";
 
-const STRONG_IN_WEAK: &[u8] =
-    b"ReactiveInput int a = 0; ReactiveOutput int o = 0; void main() { weak abort { abort { EOT; o = o + 1; } when pre (a); o = o + 10; EOT; o = o + 100; } when pre (a); o = o + 1000; }";
+const STRONG_IN_WEAK: &[u8] = b"ReactiveInput int a = 0; ReactiveOutput int o = 0;
+void main() { weak abort { abort { EOT; o = o + 1; } when pre (a); o = o + 10; EOT; o = o + 100;
+} when pre (a); o = o + 1000; }";
 
-const BEFORE: &[u8] =
-    b"ReactiveInput int a = 0; ReactiveOutput int o = 0; void main() { abort { while (1) { o = o + 1; EOT; } } when pre (a); o = 100; }";
+const BEFORE: &[u8] = b"ReactiveInput int a = 0; ReactiveOutput int o = 0;
+void main() { abort { while (1) { o = o + 1; EOT; } } when pre (a); o = 100; }";
 
 #[test]
 fn aborts_read_the_last_tick(rt: HostRuntime) -> Result<(), Fail> {
@@ -84,14 +92,18 @@ fn aborts_read_the_last_tick(rt: HostRuntime) -> Result<(), Fail> {
     Ok(())
 }
 
-const TURNS: &[u8] =
-    b"ReactiveOutput int o = 0; ReactiveOutput int p = 0; void main() { while (1) #0 { o = o + 1; } while (1) #3 { p = p + 1; } EOT; }";
+const TURNS: &[u8] = b"ReactiveOutput int o = 0; ReactiveOutput int p = 0;
+void main() { while (1) #0 { o = o + 1; } while (1) #3 { p = p + 1; } EOT; }";
 
 const EDGES: &[u8] =
-    b"ReactiveOutput int q = 0; ReactiveOutput int r = 0; ReactiveOutput int d = 0; ReactiveOutput int s = 0; ReactiveOutput int b = 0; int z = 0; int v[2]; void main() { q = 7 / z; r = 7 % z; d = -2147483648 / -1; s = 1 << 33; v[2] = 5; v[0] = 6; b = v[-1] + v[2] + v[0]; EOT; }";
+    b"ReactiveOutput int q = 0; ReactiveOutput int r = 0; ReactiveOutput int d = 0; ReactiveOutput int s = 0;
+ReactiveOutput int b = 0; int z = 0; int v[2];
+void main() { q = 7 / z; r = 7 % z; d = -2147483648 / -1; s = 1 << 33; v[2] = 5; v[0] = 6;
+b = v[-1] + v[2] + v[0]; EOT; }";
 
-const CALLS: &[u8] =
-    b"ReactiveInput int a = 0; ReactiveOutput int o = 0; int v[2]; int twice(int x) { int y = x; y = y + x; return y; } void main() { while (1) { v[a] = twice(a + 1); o = v[0] + v[1]; EOT; } }";
+const CALLS: &[u8] = b"ReactiveInput int a = 0; ReactiveOutput int o = 0; int v[2];
+int twice(int x) { int y = x; y = y + x; return y; }
+void main() { while (1) { v[a] = twice(a + 1); o = v[0] + v[1]; EOT; } }";
 
 #[test]
 fn values_at_their_edges(rt: HostRuntime) -> Result<(), Fail> {
@@ -102,7 +114,13 @@ fn values_at_their_edges(rt: HostRuntime) -> Result<(), Fail> {
 }
 
 const SAMPLER: &[u8] =
-    b"ReactiveInput int reset = 0; ReactiveInput int sensor = 0; ReactiveOutput int out = 0; int cnt = 0; int buffer[4]; void sampler() { int i = 0; while (1) { while (cnt == 4) EOT; buffer[i] = sensor; EOT; i = (i + 1) % 4; cnt = cnt + 1; } } void display() { int i = 0; while (1) { while (cnt == 0) EOT; out = buffer[i]; EOT; i = (i + 1) % 4; cnt = cnt - 1; } } void main() { while (1) { abort PAR(sampler, display); when pre (reset); cnt = 0; out = 0; } }";
+    b"ReactiveInput int reset = 0; ReactiveInput int sensor = 0; ReactiveOutput int out = 0; int cnt = 0;
+int buffer[4];
+void sampler() { int i = 0; while (1) { while (cnt == 4) EOT; buffer[i] = sensor; EOT; i = (i + 1) % 4;
+cnt = cnt + 1; } }
+void display() { int i = 0; while (1) { while (cnt == 0) EOT; out = buffer[i]; EOT; i = (i + 1) % 4;
+cnt = cnt - 1; } }
+void main() { while (1) { abort PAR(sampler, display); when pre (reset); cnt = 0; out = 0; } }";
 
 #[test]
 fn the_sampler_begins_anew_after_a_reset(rt: HostRuntime) -> Result<(), Fail> {
@@ -111,20 +129,28 @@ fn the_sampler_begins_anew_after_a_reset(rt: HostRuntime) -> Result<(), Fail> {
     Ok(())
 }
 
-// The sum of the outputs of a generated program, where tick j has the input j modulo 10.
-fn generated_sum(alloc: Global, threads: u32, ticks: i32) -> Result<i32, Refusal> {
-    let accepted = judged(alloc, &generate(alloc, threads)?)?;
-    let mut inputs = Vec::new(alloc);
+// Rows of one input each: tick j has the input j modulo 10.
+fn generated_rows(alloc: Global, ticks: i32) -> Result<Vec<Many<i32>>, Memory> {
+    let mut rows = Vec::new(alloc);
     for tick in 0..ticks {
-        inputs.push(tick % 10)?;
+        rows.push(row_of(alloc, &[tick % 10])?)?;
     }
-    let rows = rows_of(alloc, &inputs)?;
-    let all = shown(alloc, &accepted.typed, &rows)?;
+    Ok(rows)
+}
+
+fn sum_of(numbers: &[i32]) -> i32 {
     let mut sum: i32 = 0;
-    for output in &all {
-        sum = sum.wrapping_add(*output);
+    for number in numbers {
+        sum = sum.wrapping_add(*number);
     }
-    Ok(sum)
+    sum
+}
+
+// The sum of the outputs of a generated program in so many ticks.
+fn generated_sum(alloc: Global, threads: u32, ticks: i32) -> Result<i32, Refusal> {
+    let text = generate(alloc, threads)?;
+    let rows = generated_rows(alloc, ticks)?;
+    Ok(sum_of(&shown_of(alloc, &text, &rows)?))
 }
 
 #[test]

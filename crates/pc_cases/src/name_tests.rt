@@ -79,13 +79,19 @@ fn are_numbered(functions: &[Function]) -> bool {
     f.thread && is_called_function(g) && is_main_function(main)
 }
 
+/// Whether the program has five cells, `main` is function 2, and the functions have their numbers.
+fn is_numbered(alloc: Global, text: &[u8]) -> Result<bool, Refusal> {
+    let program = typed(alloc, text)?;
+    let counted = program.cells().len() == 5 && program.main() == 2;
+    Ok(counted && are_numbered(program.functions()))
+}
+
+const NUMBERED: &[u8] = b"int x = 7; int v[3]; void f() { EOT; }
+int g(int p) { int l = p; l = x; return l + p; }
+void main() { int t; t = g(1); PAR(f); v[0] = t; }";
+
 #[test]
 fn cells_and_functions_have_their_numbers(rt: HostRuntime) -> Result<(), Fail> {
-    let text =
-        b"int x = 7; int v[3]; void f() { EOT; } int g(int p) { int l = p; l = x; return l + p; } void main() { int t; t = g(1); PAR(f); v[0] = t; }";
-    let program = typed(rt.alloc(), text)?;
-    assert_eq!(rt; program.cells().len(), 5);
-    assert_eq!(rt; program.main(), 2);
-    assert!(rt; are_numbered(program.functions()));
+    assert!(rt; is_numbered(rt.alloc(), NUMBERED)?);
     Ok(())
 }

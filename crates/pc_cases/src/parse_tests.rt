@@ -1,32 +1,8 @@
-use crate::shown;
-use pc_lex::{Tokens, lex};
-use pc_verdict::source_of;
-use pt_base::{MOST_SOURCE_BYTES, Memory, Refusal, Rule, Text};
-use std::alloc::Global;
+use crate::reading::{Seen, first_other, place_of, shown, tokens_of};
+use crate::sources::nested;
+use pt_base::{Refusal, Span, Text};
+use std::alloc::{AllocError, Global};
 use std::test::Fail;
-
-/// The items of a source, as `shown` writes them.
-fn tree(alloc: Global, source: &[u8]) -> Result<Vec<u8>, Refusal> {
-    let program = source_of(alloc, &Text::of(alloc, source)?)?;
-    let mut out = Vec::new(alloc);
-    for item in program.items() {
-        shown::item(&mut out, item)?;
-    }
-    Ok(out)
-}
-
-/// The first row `SOURCE => TREE` that isn't so, or an empty text.
-fn first_other_tree<'a>(alloc: Global, rows: &'a str) -> Result<&'a str, Refusal> {
-    for row in rows.lines() {
-        let Some((source, wanted)) = row.split_once(" => ") else {
-            return Ok(row);
-        };
-        if tree(alloc, source.as_bytes())?.as_slice() != wanted.as_bytes() {
-            return Ok(row);
-        }
-    }
-    Ok("")
-}
 
 const TREES: &str = "ReactiveInput int a = 0; ReactiveOutput int o = -1; => >a0<o-1
 int x; int y = 4294967295; int z = - 4294967295; int v[15000]; => .x0.y-1.z1v[15000]
@@ -51,100 +27,80 @@ void f() { x = (g); x = -v[i]; x = ~!a<<2|b%16; } => void f{x=g;x=-v[i];x=((~!a<
 
 #[test]
 fn trees_of_each_rule(rt: HostRuntime) -> Result<(), Fail> {
-    assert_eq!(rt; first_other_tree(rt.alloc(), TREES)?, "");
-    assert!(rt; tree(rt.alloc(), b"")?.is_empty());
+    assert_eq!(rt; first_other(rt.alloc(), Seen::Program, TREES)?, "");
+    assert!(rt; shown(rt.alloc(), Seen::Program, b"")?.is_empty());
     Ok(())
 }
 
-/// The place at which S1 is broken, as `FROM TO`; `none` where it isn't.
-fn place(alloc: Global, source: &[u8]) -> Result<String, Memory> {
-    match source_of(alloc, &Text::of(alloc, source)?) {
-        Err(
-            Refusal::Broken {
-                rule: Rule::S1,
-                span,
-            },
-        ) => Ok(format!(in alloc; "{} {}", span.from, span.to)?),
-        Err(Refusal::Memory) => Err(Memory),
-        _ => Ok(String::from_str(alloc, "none")?),
-    }
-}
-
-/// The first row `FROM TO <= SOURCE` that isn't so, or an empty text.
-fn first_other_place<'a>(alloc: Global, rows: &'a str) -> Result<&'a str, Memory> {
-    for row in rows.lines() {
-        let Some((wanted, source)) = row.split_once(" <= ") else {
-            return Ok(row);
-        };
-        if place(alloc, source.as_bytes())?.as_str() != wanted {
-            return Ok(row);
-        }
-    }
-    Ok("")
-}
-
-const PLACES: &str = "17 17 <= void main() { EOT
-0 3 <= EOT;
-13 14 <= int main() { }
-11 17 <= void f() { return 1; }
-17 18 <= void f() { x = 1 }
-15 16 <= void f() { PAR(); }
-15 16 <= void f() { PAR(1); }
-12 13 <= void f() { x; }
-13 16 <= void f() { ; int y; }
-14 18 <= void f(int a, void) { }
-11 12 <= void f(void, int a) { }
-6 7 <= int v[x];
-9 10 <= int v[1] = 2;
-10 11 <= int x = 1 + 2;
-10 11 <= int x = - - 2;
-19 20 <= ReactiveInput int a;
-11 15 <= void f() { else ; }
-23 24 <= void f() { while (a) # b ; }
-16 19 <= void f() { weak EOT; }
-27 28 <= void f() { abort EOT; when (a); }
-35 36 <= void f() { abort EOT; when pre (a) }
-19 20 <= void f() { x = g(1,); }";
+const PLACES: &str = "void main() { EOT => 17 17
+EOT; => 0 3
+int main() { } => 13 14
+void f() { return 1; } => 11 17
+void f() { x = 1 } => 17 18
+void f() { PAR(); } => 15 16
+void f() { PAR(1); } => 15 16
+void f() { x; } => 12 13
+void f() { ; int y; } => 13 16
+void f(int a, void) { } => 14 18
+void f(void, int a) { } => 11 12
+int v[x]; => 6 7
+int v[1] = 2; => 9 10
+int x = 1 + 2; => 10 11
+int x = - - 2; => 10 11
+ReactiveInput int a; => 19 20
+void f() { else ; } => 11 15
+void f() { while (a) # b ; } => 23 24
+void f() { weak EOT; } => 16 19
+void f() { abort EOT; when (a); } => 27 28
+void f() { abort EOT; when pre (a) } => 35 36
+void f() { x = g(1,); } => 19 20";
 
 #[test]
 fn places_of_refusal(rt: HostRuntime) -> Result<(), Fail> {
-    assert_eq!(rt; first_other_place(rt.alloc(), PLACES)?, "");
+    assert_eq!(rt; first_other(rt.alloc(), Seen::Place, PLACES)?, "");
     Ok(())
 }
 
-fn joined(alloc: Global, parts: &[&[u8]]) -> Result<Vec<u8>, Memory> {
-    let mut all = Vec::new(alloc);
-    for part in parts {
-        all.extend_from_slice(*part)?;
-    }
-    Ok(all)
+/// The place at which S1 is broken.
+fn place(alloc: Global, source: &[u8]) -> Result<Option<Span>, Refusal> {
+    let text = Text::of(alloc, source)?;
+    place_of(alloc, &text)
 }
 
 /// Whether S1 is broken there.
-fn is_refused_at(alloc: Global, source: &[u8], from: usize, to: usize) -> Result<bool, Memory> {
-    let wanted = format!(in alloc; "{} {}", from, to)?;
-    Ok(place(alloc, source)?.as_str() == wanted.as_str())
+fn is_refused_at(alloc: Global, source: &[u8], from: usize, to: usize) -> Result<bool, Refusal> {
+    match place(alloc, source)? {
+        None => Ok(false),
+        Some(span) => Ok(span.from as usize == from && span.to as usize == to),
+    }
+}
+
+/// The source with a bracket at this place.
+fn put_wrong(out: &mut Vec<u8>, source: &[u8], at: usize) -> Result<(), AllocError> {
+    let at = source.len().min(at);
+    out.extend_from_slice(&source[..at])?;
+    out.push(b']')?;
+    out.extend_from_slice(&source[at..])
+}
+
+/// Whether a bracket there is refused.
+fn is_wrong(alloc: Global, source: &[u8], at: usize) -> Result<bool, Refusal> {
+    let mut wrong = Vec::new(alloc);
+    put_wrong(&mut wrong, source, at)?;
+    is_refused_at(alloc, &wrong, at, at.saturating_add(1))
 }
 
 /// Whether the front before a token is refused at its end, and a bracket before the token is refused.
-fn is_needed(alloc: Global, source: &[u8], from: usize) -> Result<bool, Memory> {
+fn is_needed(alloc: Global, source: &[u8], from: usize) -> Result<bool, Refusal> {
     let from = source.len().min(from);
-    let front = &source[..from];
-    let cut = from == 0 || is_refused_at(alloc, front, from, from)?;
-    let wrong = joined(alloc, &[front, b"]", &source[from..]])?;
-    Ok(cut && is_refused_at(alloc, &wrong, from, from.saturating_add(1))?)
-}
-
-fn tokens_of(alloc: Global, source: &[u8]) -> Result<Tokens, Refusal> {
-    if source.len() > MOST_SOURCE_BYTES as usize {
-        return Err(Refusal::Memory);
-    }
-    lex(alloc, &Text::of(alloc, source)?)
+    let cut = from == 0 || is_refused_at(alloc, &source[..from], from, from)?;
+    Ok(cut && is_wrong(alloc, source, from)?)
 }
 
 /// Whether each token of the source is needed.
 fn is_tight(alloc: Global, source: &[u8]) -> Result<bool, Refusal> {
-    let tokens = tokens_of(alloc, source)?;
+    let text = Text::of(alloc, source)?;
+    let tokens = tokens_of(alloc, &text)?;
     for token in tokens.tokens.items() {
         if !is_needed(alloc, source, token.span.from as usize)? {
             return Ok(false);
@@ -177,46 +133,22 @@ fn refused_at_each_token(rt: HostRuntime) -> Result<(), Fail> {
     Ok(())
 }
 
-/// `void f ( )` with the front so many times, the middle, and the back so many times as its body.
-fn nested(
-    alloc: Global,
-    count: u32,
-    front: &str,
-    middle: &str,
-    back: &str,
-) -> Result<Vec<u8>, Memory> {
-    let mut all = Vec::new(alloc);
-    all.extend_from_slice(b"void f(){")?;
-    for _ in 0..count {
-        all.extend_from_slice(front.as_bytes())?;
-    }
-    all.extend_from_slice(middle.as_bytes())?;
-    for _ in 0..count {
-        all.extend_from_slice(back.as_bytes())?;
-    }
-    all.push(b'}')?;
-    Ok(all)
-}
-
-/// The place at which S1 is broken where the front stands so many times.
-fn place_of_nested(
-    alloc: Global,
-    count: u32,
-    front: &str,
-    middle: &str,
-    back: &str,
-) -> Result<String, Memory> {
-    let source = nested(alloc, count, front, middle, back)?;
-    place(alloc, &source)
+/// The place at which S1 is broken in `void f(){}` with the middle inside so many fronts and backs as its body.
+fn place_in(alloc: Global, count: u32, parts: [&str; 3]) -> Result<Option<Span>, Refusal> {
+    let [front, middle, back] = parts;
+    let source = nested(alloc, count, ["void f(){", front, middle, back, "}"])?;
+    place(alloc, source.as_bytes())
 }
 
 /// Whether 31 such statements in one another are taken, and the front of the 32nd is refused.
-fn nests_31(alloc: Global, front: &str, back: &str) -> Result<bool, Memory> {
-    let taken = place_of_nested(alloc, 31, front, ";", back)?;
-    let deeper = place_of_nested(alloc, 32, front, ";", back)?;
+fn nests_31(alloc: Global, front: &str, back: &str) -> Result<bool, Refusal> {
+    let taken = place_in(alloc, 31, [front, ";", back])?;
+    let deeper = place_in(alloc, 32, [front, ";", back])?;
     let from = 9usize.saturating_add(31usize.saturating_mul(front.len()));
-    let start = format!(in alloc; "{} ", from)?;
-    Ok(taken.as_str() == "none" && deeper.as_str().starts_with(start.as_str()))
+    match (taken, deeper) {
+        (None, Some(span)) => Ok(span.from as usize == from),
+        _ => Ok(false),
+    }
 }
 
 #[test]
@@ -227,20 +159,26 @@ fn nesting_of_statements_has_its_limit(rt: HostRuntime) -> Result<(), Fail> {
     assert!(rt; nests_31(alloc, "while(a)", "")?);
     assert!(rt; nests_31(alloc, "abort ", "when pre(a);")?);
     assert!(rt; nests_31(alloc, "weak abort ", "when pre(a);")?);
-    assert_eq!(rt; place_of_nested(alloc, 32, "{", "", "}")?.as_str(), "none");
-    assert_eq!(rt; place_of_nested(alloc, 33, "{", "", "}")?.as_str(), "41 42");
     Ok(())
 }
 
-/// How many bytes the tree of 20,000 assignments has.
-fn long_tree(alloc: Global) -> Result<usize, Refusal> {
-    let source = nested(alloc, 20_000, "x=1;", "", "")?;
-    Ok(tree(alloc, &source)?.len())
+#[test]
+fn nesting_of_blocks_has_its_limit(rt: HostRuntime) -> Result<(), Fail> {
+    let refused = Span { from: 41, to: 42 };
+    assert!(rt; place_in(rt.alloc(), 32, ["{", "", "}"])?.is_none());
+    assert!(rt; place_in(rt.alloc(), 33, ["{", "", "}"])? == Some(refused));
+    Ok(())
+}
+
+/// How many bytes the tree of so many assignments has.
+fn length_of_tree(alloc: Global, count: u32) -> Result<usize, Refusal> {
+    let source = nested(alloc, count, ["void f(){", "x=1;", "", "", "}"])?;
+    Ok(shown(alloc, Seen::Program, source.as_bytes())?.len())
 }
 
 #[test]
 fn long_lists_are_loops(rt: HostRuntime) -> Result<(), Fail> {
-    assert_eq!(rt; long_tree(rt.alloc())?, 80_008);
-    assert!(rt; place_of_nested(rt.alloc(), 20_000, "", "f(1", ",1")?.as_str() != "none");
+    assert_eq!(rt; length_of_tree(rt.alloc(), 20_000)?, 80_008);
+    assert!(rt; place_in(rt.alloc(), 20_000, ["", "f(1", ",1"])?.is_some());
     Ok(())
 }

@@ -1,7 +1,18 @@
-use crate::printed;
-use pt_base::Memory;
+use pc_print::print;
+use pc_verdict::source_of;
+use pt_base::{Memory, Refusal, Text};
 use std::alloc::Global;
 use std::test::Fail;
+
+/// The canonical text of a source's program, or nothing where the source is refused.
+fn printed(alloc: Global, source: &[u8]) -> Result<Option<Text>, Memory> {
+    let text = Text::of(alloc, source)?;
+    match source_of(alloc, &text) {
+        Ok(program) => Ok(Some(print(alloc, &program)?)),
+        Err(Refusal::Memory) => Err(Memory),
+        Err(_) => Ok(None),
+    }
+}
 
 /// Whether a source is printed as this text.
 fn prints(alloc: Global, source: &[u8], wanted: &[u8]) -> Result<bool, Memory> {

@@ -1,5 +1,5 @@
 -- The words of an image are within those that the rules count.
-use Rattle.std.proofs.Common.{◌≡◌, ℕ, zero, suc, ◌+◌, ◌<◌, ◌≤◌, Bool, true, false, List, [], ◌∷◌, Option, Some, None, refl, sym, ap, ◌∙◌, arith}
+use Rattle.std.proofs.Common.{◌≡◌, ℕ, ◌+◌, ◌≤◌, Bool, true, false, List, [], ◌∷◌, Option, Some, None, refl, arith}
 use Rattle.std.specs.Prelude.{nat_lt, if◌then◌else◌}
 use Rattle.pt_base.specs.declared.UnOp.{UnOp}
 use Rattle.pt_base.specs.declared.UnOp.TheVariants.{Neg, Not, Flip}
@@ -11,14 +11,14 @@ use Rattle.pc_ir.specs.declared.nodes.Test.{Test}
 use Rattle.pc_ir.specs.Flow.{Node, Nodes, straight, sequence, branch, turns, bounded, call, pause, fork, guard, no_nodes, and, Flow}
 use Rattle.pc_lower.specs.Counts as lowered
 use Rattle.pc_lower.specs.Counts.{node_words, nodes_words, some_words, drop_words, bodies_words}
-use Rattle.pc_region.specs.Words.{words_in, Writing}
+use Rattle.pc_region.specs.Words.{Writing}
 use Rattle.pc_flows.specs.Few.{WritesFew}
 use Rattle.pc_regs.specs.declared.placement.Placement.{Placement}
 use Rattle.pc_regs.specs.Words.{writing_of}
 use Rattle.pc_regs.specs.Counts.{most_unary, most_binary, most_words, most_steps_words}
 use Rattle.pc_regs.specs.Laws.{WordsAreFew}
 use Rattle.pc_emit.specs.Code.{loop_size, drop_size, option_size, size, sizes}
-use Rattle.pc_emit.specs.Image.{functions_size, condition_size, conditions_size, code_size}
+use Rattle.pc_emit.specs.Image.{functions_size, conditions_size, code_size}
 
 unary-same : (op : UnOp) → most_unary op ≡ lowered.unary_words op
 unary-same Neg = refl

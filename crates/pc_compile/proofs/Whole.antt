@@ -1,8 +1,6 @@
 -- A lowered flow can be emitted, and its image is what the program compiles to.
-use Rattle.std.proofs.Common.{◌≡◌, ℕ, ◌+◌, ◌-◌, ◌<◌, ◌≤◌, max, Bool, List, [], ◌∷◌, map, length, refl, sym, ap, subst, ◌∙◌, arith}
-use Rattle.std.specs.Prelude.{FitsSigned, slice_index_or, Result, Ok, Err, IfOk}
-use Rattle.std.specs.Int.{w32}
-use Rattle.std.specs.List.{AllByRecursion}
+use Rattle.std.proofs.Common.{ℕ, ◌-◌, List, refl, sym, subst, ◌∙◌, arith}
+use Rattle.std.specs.Prelude.{slice_index_or}
 use Rattle.std.proofs.lemmas.List.{length-map}
 use Rattle.mb_isa.specs.Costs.{IsCosts}
 use Rattle.pt_image.specs.declared.image.Parts.{Parts}
@@ -11,13 +9,12 @@ use Rattle.pc_typed.specs.Keeping.{IsTyped}
 use Rattle.pc_rules.specs.Judging.{IsWithin}
 use Rattle.pc_meaning.specs.Programs.{program_of}
 use Rattle.pc_ir.specs.Flow.{Flow}
-use Rattle.pc_lower.specs.Counts.{BodiesWithin, ConditionsWithin, bodies_words, conditions_words}
+use Rattle.pc_lower.specs.Counts.{BodiesWithin, ConditionsWithin}
 use Rattle.pc_region.specs.Laid.{Placing}
 use Rattle.pc_region.specs.Words.{Writing}
 use Rattle.pc_region.specs.Numbering.{slots_of, parent_of}
 use Rattle.pc_region.specs.Image.{IsImageOf}
 use Rattle.pc_region.specs.Runs.{RunLaws}
-use Rattle.pc_region.specs.Layable.{CanBeLaid}
 use Rattle.pc_region.proofs.Sizing.{counts}
 use Rattle.pc_flows.specs.Placing.{typed_flow, placing_of}
 use Rattle.pc_flows.specs.Few.{WritesFew, sizes_for}
@@ -38,7 +35,10 @@ use Rattle.pc_regs.specs.Assignment.{placement_of}
 use Rattle.pc_regs.specs.Laws.{WordsDoTheSteps, WordsAreWork, WordsAreFew}
 use Rattle.pc_emit.specs.Image.{entrances_of, image_of}
 use Rattle.pc_emit.specs.Fits.{placed, CanBeEmitted, AreSizes}
-use Rattle.pc_emit.specs.Laws.{AFlowIsLaidOut, ALaidFlowIsInItsRanges, ALaidFlowListsAll}
+use Rattle.pc_emit.specs.Sections.{program_of as sections_program}
+use Rattle.pc_emit.specs.Laws.{AFlowIsLaidOut, ALaidFlowIsInItsRanges, ALaidFlowListsAll, ALaidFlowIsAProgram, AFlowIsSmall}
+use Rattle.tk_paths.specs.Programs.{IsProgram}
+use Rattle.tk_paths.specs.Counts.{AreSmall}
 use Rattle.pc_emit.specs.Eots.{ListsAll}
 use Rattle.pc_compile.specs.Compiled.{Compiles}
 use Rattle.pc_compile.proofs.Lowered.{IsLowered}
@@ -88,14 +88,14 @@ module _ (t : Typing) (typed : IsTyped t) (within : IsWithin t)
     outputs = (outputs-few t typed within, outputs-below t typed);
   }
 
-  module _ (steps : WordsDoTheSteps) (laid : AFlowIsLaidOut) (ranged : ALaidFlowIsInItsRanges) (listed : ALaidFlowListsAll) where
-    sizes-are : AreSizes f writing (sizes_for writing f.bodies)
-    sizes-are = record {
-      words = λ q. omega arith;
-      test_words = λ q. omega arith;
-      counts = counts _ _ f.bodies (flow-in-order (program_of t) (fit t typed within));
-    }
+  sizes-are : AreSizes f writing (sizes_for writing f.bodies)
+  sizes-are = record {
+    words = λ q. omega arith;
+    test_words = λ q. omega arith;
+    counts = counts _ _ f.bodies (flow-in-order (program_of t) (fit t typed within));
+  }
 
+  module _ (steps : WordsDoTheSteps) (laid : AFlowIsLaidOut) (ranged : ALaidFlowIsInItsRanges) (listed : ALaidFlowListsAll) where
     is-image : (costs : List ℕ) → IsCosts costs → IsImageOf (parent_of f) image costs f writing (sizes_for writing f.bodies) (placed f writing placing)
     is-image costs priced = laid f writing placing further (sizes_for writing f.bodies) costs can-be-emitted sizes-are priced
 
@@ -132,6 +132,14 @@ module _ (t : Typing) (typed : IsTyped t) (within : IsWithin t)
       faithful = faithful;
     }
 
+  -- the image holds the program that certificates see in it, and no number of its certificates is great
+  module _ (held : ALaidFlowIsAProgram) (small : AFlowIsSmall) where
+    holds : IsProgram image (sections_program writing f)
+    holds = held f writing placing further can-be-emitted
+
+    counts-few : AreSmall image (sections_program writing f)
+    counts-few = small f writing placing further (sizes_for writing f.bodies) can-be-emitted sizes-are (limits t typed within writing short image refl refl) holds
+
 -- of a flow that is that of a program
 module _ (t : Typing) (g : Flow) (low : IsLowered t g) (work : WordsAreWork) (few : WordsAreFew) where
   bodies-there : BodiesWithin 652 (typed_flow t).bodies
@@ -153,7 +161,10 @@ module _ (t : Typing) (g : Flow) (low : IsLowered t g) (work : WordsAreWork) (fe
       subst (λ x. Compiles t (image_of (writing_of (placement_of x)) x (memory_words (placement_of x) - (placement_of x).cells))) (sym low.same)
       (compiles t low.typed low.within bodies-there conditions-there work few steps laid ranged listed)
 
--- what holds of an image holds of what is given, if anything is
-pub given : {A E : Type 0} (r : Result A E) (P : A → Type 0) (x : A) → IfOk r (λ y. y ≡ x) → P x → IfOk r P
-given (Ok y) P x is h = subst P (sym is) h
-given (Err e) P x is h = tt
+  pub is-held : ALaidFlowIsAProgram → AFlowIsSmall →
+      IsProgram (image_of (writing_of (placement_of g)) g (memory_words (placement_of g) - (placement_of g).cells)) (sections_program (writing_of (placement_of g)) g)
+      × AreSmall (image_of (writing_of (placement_of g)) g (memory_words (placement_of g) - (placement_of g).cells)) (sections_program (writing_of (placement_of g)) g)
+  is-held held small =
+      subst (λ x. IsProgram (image_of (writing_of (placement_of x)) x (memory_words (placement_of x) - (placement_of x).cells)) (sections_program (writing_of (placement_of x)) x)
+      × AreSmall (image_of (writing_of (placement_of x)) x (memory_words (placement_of x) - (placement_of x).cells)) (sections_program (writing_of (placement_of x)) x)) (sym low.same)
+      (holds t low.typed low.within bodies-there conditions-there work few held small, counts-few t low.typed low.within bodies-there conditions-there work few held small)

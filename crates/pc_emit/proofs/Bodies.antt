@@ -1,10 +1,10 @@
 -- The bodies of a flow in memory.
-use Rattle.std.proofs.Common.{◌≡◌, ℕ, zero, suc, ◌<◌, ◌≤◌, List, [], ◌∷◌, length, map, Some, None, slice_get, refl, ap, ◌∙◌, arith}
+use Rattle.std.proofs.Common.{◌≡◌, ℕ, List, [], map, Some, None, slice_get, ap, ◌∙◌}
 use Rattle.std.proofs.lemmas.Option.{slice_get-map}
 use Rattle.std.specs.Prelude.{unwrap_or}
 use Rattle.std.specs.Option.{option_map}
 use Rattle.pc_ir.specs.declared.nodes.Node.{Node as Kept}
-use Rattle.pc_ir.specs.Flow.{Node, sequence, no_nodes}
+use Rattle.pc_ir.specs.Flow.{sequence, no_nodes}
 use Rattle.pc_ir.specs.Residuals.{body_at}
 use Rattle.pc_ir.specs.Trees.{read}
 use Rattle.pc_region.specs.Limits.{started_by, threads_of}

@@ -1,14 +1,13 @@
 -- The lines of aborts, and their conditions.
-use Rattle.std.proofs.Common.{◌≡◌, ℕ, zero, suc, ◌+◌, ◌<◌, ◌≤◌, Bool, IsTrue, Option, Some, None, List, [], ◌∷◌, ◌++◌, length, slice_get, refl, sym, ap, subst, ◌∙◌, arith, length-append}
+use Rattle.std.proofs.Common.{◌≡◌, ℕ, zero, suc, ◌+◌, ◌<◌, ◌≤◌, Bool, IsTrue, Some, List, [], ◌∷◌, ◌++◌, length, slice_get, refl, sym, ap, subst, ◌∙◌, arith, length-append}
 use Rattle.std.specs.Prelude.{slice_index_or}
 use Rattle.std.specs.List.{AllByRecursion}
-use Rattle.mb_isa.specs.declared.words.Instr.{Instr}
 use Rattle.mb_isa.specs.declared.words.Instr.TheVariants.{Cend}
 use Rattle.pt_image.specs.declared.image.AbortLine.{AbortLine}
 use Rattle.pt_image.specs.declared.image.Parts.{Parts}
 use Rattle.pc_ir.specs.declared.nodes.Test.{Test}
 use Rattle.pc_ir.specs.Flow.{abort_at, is_weak}
-use Rattle.pc_region.specs.Places.{Has, line_in}
+use Rattle.pc_region.specs.Places.{line_in}
 use Rattle.pc_region.specs.Words.{words_in, Writing, HasCondition}
 use Rattle.pc_emit.specs.Part.{Part}
 use Rattle.pc_regs.specs.Writings.{instrs, WritesWork}

@@ -1,13 +1,12 @@
 -- The functions of a flow in a whole.
-use Rattle.std.proofs.Common.{◌≡◌, ℕ, zero, suc, ◌+◌, ◌<◌, ◌≤◌, Bool, true, false, Option, Some, None, List, [], ◌∷◌, ◌++◌, length, refl, sym, ap, subst, ◌∙◌, arith, eq-eqb, append-nil, length-append}
+use Rattle.std.proofs.Common.{◌≡◌, ℕ, zero, suc, ◌+◌, ◌<◌, ◌≤◌, false, Option, Some, None, List, [], ◌∷◌, length, refl, ap, subst, ◌∙◌, arith, eq-eqb, length-append}
 use Rattle.std.specs.Prelude.{◌==◌, if◌then◌else◌, slice_index_or, unwrap_or}
-use Rattle.std.proofs.lemmas.Bool.{eqb-true, ne_eqb}
-use Rattle.mb_isa.specs.declared.words.Instr.{Instr}
+use Rattle.std.proofs.lemmas.Bool.{ne_eqb}
 use Rattle.pc_ir.specs.Flow.{Node}
 use Rattle.pc_ir.specs.Residuals.{body_at}
 use Rattle.pc_region.specs.Words.{Writing}
 use Rattle.pc_region.specs.Layable.{pauses_in, forks_of, guards_of, numbers_in}
-use Rattle.pc_emit.specs.Part.{Part, joined, just}
+use Rattle.pc_emit.specs.Part.{Part, joined}
 use Rattle.pc_emit.specs.Code.{size, code}
 use Rattle.pc_emit.specs.Image.{found_from, slot_of, closing, functions_size, entrances_from, function_code, functions_code}
 use Rattle.pc_emit.proofs.Lengths.{code_size}
@@ -66,7 +65,7 @@ module _ (writing : Writing) where
         ∙ ap (λ p. joined p (functions_code writing entrances slots first (g + 1) nodes (at + size writing n + 1))) h
         ∙ joined_assoc out y (functions_code writing entrances slots first (g + 1) nodes (at + size writing n + 1))
 
-    function_counted : (slot : Option ℕ) (n : Node) (at : ℕ) → Counted (function_code writing entrances slots first slot n at) (pauses_in n) (forks_of n) (guards_of n)
+    pub function_counted : (slot : Option ℕ) (n : Node) (at : ℕ) → Counted (function_code writing entrances slots first slot n at) (pauses_in n) (forks_of n) (guards_of n)
     function_counted slot n at =
         counted_behind (code writing entrances (unwrap_or slot 0) n [] (first (unwrap_or slot 0)) at) (closing slot ∷ []) (pauses_in n) (forks_of n) (guards_of n)
         (counted writing entrances (unwrap_or slot 0) n [] (first (unwrap_or slot 0)) at)

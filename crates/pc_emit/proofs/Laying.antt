@@ -1,27 +1,24 @@
 -- The words of a node are laid out where its part stands.
-use Rattle.std.proofs.Common.{◌≡◌, ℕ, suc, ◌+◌, ◌%◌, ◌^◌, ◌<◌, ◌≤◌, Bool, IsTrue, Option, Some, None, List, [], ◌∷◌, ◌++◌, length, slice_get, refl, sym, ap, subst, ◌∙◌, arith, append-nil, length-append}
+use Rattle.std.proofs.Common.{◌≡◌, ℕ, ◌+◌, ◌%◌, ◌<◌, ◌≤◌, Bool, Option, Some, None, List, [], ◌∷◌, ◌++◌, length, slice_get, refl, sym, ap, subst, ◌∙◌, arith, append-nil, length-append}
 use Rattle.std.proofs.lemmas.List.FromFn.{length-range_with_len}
 use Rattle.std.specs.Prelude.{slice_index_or}
-use Rattle.mb_isa.specs.declared.words.Instr.{Instr}
 use Rattle.mb_isa.specs.declared.words.Instr.TheVariants.{Bri, Fork, Eot, Abrt, Leave, Call, Next, Drop}
-use Rattle.pt_image.specs.declared.image.AbortLine.{AbortLine}
 use Rattle.pt_image.specs.declared.image.Point.{Point}
 use Rattle.pt_image.specs.declared.image.Parts.{Parts}
 use Rattle.pc_ir.specs.declared.nodes.Test.{Test}
 use Rattle.pc_ir.specs.Flow.{Node, Nodes, straight, sequence, branch, turns, bounded, call, pause, fork, guard, no_nodes, and, Flows}
-use Rattle.pc_region.specs.Places.{Has}
 use Rattle.pc_region.specs.Laid.{Placing, HasOption, HasDrop, HasChildren, Laid, LaidAll}
-use Rattle.pc_region.specs.Words.{words_in, Writing, HasSteps, HasTest}
+use Rattle.pc_region.specs.Words.{Writing, HasSteps, HasTest}
 use Rattle.pc_region.specs.Limits.{threads_of}
 use Rattle.pc_region.specs.Layable.{IsLayable, AreLayable, pauses_in, pauses_in_all, forks_of, forks_of_all, guards_of, guards_of_all}
 use Rattle.pc_emit.specs.Part.{Part, joined, just, entering}
 use Rattle.pc_regs.specs.Writings.{instrs, WritesWork, OptionWritten, NodeWritten, NodesWritten}
 use Rattle.pc_emit.specs.Code.{loop_size, drop_size, test_size, option_size, size, sizes, short, jump, loop_words, drop_words, point, tested, option_tested, code, codes}
-use Rattle.pc_emit.proofs.Lists.{IsAt, at_moved, at_get, at_within, at_first, at_second, counted_at}
+use Rattle.pc_emit.proofs.Lists.{IsAt, at_moved, at_get, at_within, counted_at}
 use Rattle.pc_emit.proofs.Numbers.{short_is}
-use Rattle.pc_emit.proofs.Lengths.{instrs_size, loop_words_size, drop_words_size, tested_size, option_tested_size, code_size}
+use Rattle.pc_emit.proofs.Lengths.{loop_words_size, tested_size, option_tested_size, code_size}
 use Rattle.pc_emit.proofs.Stands.{Spot, past, Stands, first_stands, second_stands, Numbers, first_numbers, second_numbers, words_plain, past_plain, option_plain, counted}
-use Rattle.pc_emit.proofs.Made.{IsMade, code_long, has_at, written_at, jump_at, loop_at, test_at}
+use Rattle.pc_emit.proofs.Made.{IsMade, has_at, written_at, jump_at, loop_at, test_at}
 
 -- every fork in a node starts children from a number on, one fork after another
 module _ (IsStarted : ℕ → List ℕ → Type 0) where

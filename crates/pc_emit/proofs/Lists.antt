@@ -1,7 +1,6 @@
 -- Lists that stand in others from a number on.
-use Rattle.std.proofs.Common.{◌≡◌, ℕ, suc, ◌+◌, ◌<◌, ◌≤◌, List, [], ◌∷◌, ◌++◌, length, map, Some, slice_get, zero, append-nil, refl, sym, ap, subst, ◌∙◌, append_assoc, length-append, arith, option_map}
+use Rattle.std.proofs.Common.{◌≡◌, ℕ, suc, ◌+◌, ◌≤◌, List, [], ◌∷◌, ◌++◌, length, Some, slice_get, zero, append-nil, refl, sym, ap, ◌∙◌, append_assoc, length-append, arith}
 use Rattle.std.specs.List.{AllByRecursion, range_with_len}
-use Rattle.std.specs.Prelude.{slice_index_or}
 
 pub record IsAt {A : Type 0} (all : List A) (n : ℕ) (part : List A) : Type 0 where
   pub before : List A

@@ -1,5 +1,5 @@
 -- What an image that is made of a whole has where parts of the whole stand.
-use Rattle.std.proofs.Common.{◌≡◌, ℕ, suc, ◌+◌, ◌/◌, ◌%◌, ◌^◌, ◌<◌, ◌≤◌, ℤ, Bool, true, false, IsTrue, FitsSigned, Option, Some, None, List, [], ◌∷◌, ◌++◌, length, map, slice_get, refl, sym, ap, subst, ◌∙◌, arith, option_map, option_and_then, eq-eqb}
+use Rattle.std.proofs.Common.{◌≡◌, ℕ, ◌+◌, ◌/◌, ◌%◌, ◌^◌, ◌<◌, ◌≤◌, ℤ, Bool, true, false, IsTrue, FitsSigned, Some, None, List, [], ◌∷◌, ◌++◌, length, map, slice_get, refl, ap, ◌∙◌, arith, option_map, option_and_then, eq-eqb}
 use Rattle.std.specs.Prelude.{nat_lt, ◌==◌, if◌then◌else◌}
 use Rattle.std.specs.Int.{w16}
 use Rattle.std.proofs.lemmas.Option.{slice_get-map}
@@ -16,8 +16,8 @@ use Rattle.pc_region.specs.Places.{Has, HasJump, wide, HasLoop, wide_loop, short
 use Rattle.pc_region.specs.Words.{Written, alone, after_imm, words_in, Writing, HasWritten, HasBranch, wide_branch, HasTest}
 use Rattle.pc_emit.specs.Part.{Part}
 use Rattle.pc_regs.specs.Writings.{instrs, AreWork, WritesWork}
-use Rattle.pc_emit.specs.Code.{test_size, loop_size, loop_words, short, way, upper_half, lower_half, jump}
-use Rattle.pc_emit.proofs.Lists.{IsAt, at_first, at_second, at_moved, at_get, at_within}
+use Rattle.pc_emit.specs.Code.{test_size, loop_size, loop_words, way, upper_half, lower_half, jump}
+use Rattle.pc_emit.proofs.Lists.{IsAt, at_second, at_moved, at_get, at_within}
 use Rattle.pc_emit.proofs.Numbers.{fits_half, two_halves_of_turns, way_small, jump_leads}
 use Rattle.pc_emit.proofs.Lengths.{instrs_size}
 

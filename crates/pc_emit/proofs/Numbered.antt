@@ -1,5 +1,5 @@
 -- What is known of the slots of a flow.
-use Rattle.std.proofs.Common.{ℕ, ◌<◌, length}
+use Rattle.std.proofs.Common.{◌<◌, length}
 use Rattle.pc_ir.specs.Flow.{Flow}
 use Rattle.pc_region.specs.Program.{InOrder}
 use Rattle.pc_region.proofs.Numbering.{slots-are, have-slots}

@@ -1,5 +1,5 @@
 -- Where branches lead, and the numbers of words.
-use Rattle.std.proofs.Common.{◌≡◌, ℕ, suc, ◌+◌, ◌-◌, ◌*◌, ◌/◌, ◌%◌, ◌^◌, ◌<◌, ◌≤◌, ℤ, pos, negsuc, neg_ℤ, ◌+ℤ◌, ◌*ℤ◌, Some, FitsSigned, refl, ap, ◌∙◌, arith, ⊎_elim}
+use Rattle.std.proofs.Common.{◌≡◌, ℕ, suc, ◌+◌, ◌-◌, ◌*◌, ◌/◌, ◌%◌, ◌^◌, ◌<◌, ◌≤◌, pos, negsuc, neg_ℤ, ◌+ℤ◌, ◌*ℤ◌, Some, FitsSigned, refl, ap, ◌∙◌, arith, ⊎_elim}
 use Rattle.std.specs.Int.{w16, w32, cast_signed, cast_unsigned}
 use Rattle.std.proofs.lemmas.Int.{ints, of_z-to_z, to_z_pos}
 use Rattle.std.proofs.Math.Facts.{to_z-neg, sfits_to_z}

@@ -1,8 +1,6 @@
 -- Parts put behind others, and the places behind them.
 use Rattle.std.proofs.Common.{◌≡◌, ℕ, suc, ◌+◌, ◌<◌, List, [], ◌∷◌, length, drop, get_or, refl, sym, ap, ◌∙◌, append_assoc, append-nil, length-append, drop-cons, add-one}
-use Rattle.pc_ir.specs.declared.nodes.Node.{Node as Kept}
 use Rattle.pc_ir.specs.Flow.{Node, Nodes, and}
-use Rattle.pc_ir.specs.Trees.{read, all_read}
 use Rattle.pc_region.specs.Words.{Writing}
 use Rattle.pc_region.specs.Limits.{threads_of}
 use Rattle.pc_emit.specs.Part.{Part, joined, just}

@@ -1,5 +1,5 @@
 -- The image of a flow is within the ranges of an image.
-use Rattle.std.proofs.Common.{◌≡◌, ◌⊎◌, ℕ, zero, suc, ◌+◌, ◌%◌, ◌/◌, ◌^◌, ◌<◌, ◌≤◌, ℤ, pos, Bool, true, false, IsTrue, FitsSigned, Option, Some, None, List, [], ◌∷◌, ◌++◌, length, map, replicate, refl, sym, ap, subst, ◌∙◌, arith, append-nil, length-append, ⊎_elim}
+use Rattle.std.proofs.Common.{◌≡◌, ℕ, zero, suc, ◌+◌, ◌%◌, ◌/◌, ◌^◌, ◌<◌, ◌≤◌, ℤ, pos, Bool, true, false, IsTrue, FitsSigned, Option, Some, None, List, [], ◌∷◌, ◌++◌, length, map, replicate, refl, sym, ap, subst, ◌∙◌, arith, length-append, ⊎_elim}
 use Rattle.std.specs.Prelude.{◌==◌, nat_lt, if◌then◌else◌, slice_index_or, unwrap_or}
 use Rattle.std.specs.Int.{w16, w32}
 use Rattle.std.specs.List.{AllByRecursion, IsDistinct, range_with_len}
@@ -7,7 +7,7 @@ use Rattle.std.proofs.lemmas.Bool.{ne_eqb}
 use Rattle.std.proofs.lemmas.Bool.Decides.{Decides-ltb}
 use Rattle.std.proofs.lemmas.List.{length-map, length-replicate}
 use Rattle.mb_isa.specs.declared.words.Instr.{Instr}
-use Rattle.mb_isa.specs.declared.words.Instr.TheVariants.{Imm, Bri, Fork, Eot, Abrt, Leave, Call, Loop, Next, Drop, End, Ret, Cend}
+use Rattle.mb_isa.specs.declared.words.Instr.TheVariants.{Imm, Bri, Leave, Call, Loop, Next, Cend}
 use Rattle.mb_isa.specs.Codes.{code_of, IsInstr}
 use Rattle.pt_image.specs.declared.image.AbortLine.{AbortLine}
 use Rattle.pt_image.specs.declared.image.Point.{Point}
@@ -20,13 +20,13 @@ use Rattle.pc_ir.specs.Residuals.{body_at}
 use Rattle.pc_region.specs.Laid.{Placing}
 use Rattle.pc_region.specs.Words.{Written, alone, after_imm, words_in, Writing}
 use Rattle.pc_region.specs.Limits.{threads_of}
-use Rattle.pc_region.specs.Numbering.{slots_of, function_of, first_started}
+use Rattle.pc_region.specs.Numbering.{slots_of, first_started}
 use Rattle.pc_region.specs.Layable.{IsLayable, AreLayable, guards_of, guards_of_all, numbers_in}
 use Rattle.pc_emit.specs.Part.{Part, joined, just, entering}
 use Rattle.pc_regs.specs.Writings.{instrs, AreWork, WritesWork, OptionWritten, NodeWritten, NodesWritten}
-use Rattle.pc_emit.specs.Code.{loop_size, drop_size, test_size, option_size, size, sizes, short, way, upper_half, lower_half, jump, loop_words, drop_words, point, tested, option_tested, code, codes}
-use Rattle.pc_emit.specs.Image.{found_from, slot_of, closing, functions_size, entrances_from, function_code, functions_code, condition_size, conditions_size, conditions_words, abort_lines, entrances_of, whole_of, code_size, image_of}
-use Rattle.pc_emit.specs.Fits.{placed, CanBeEmitted}
+use Rattle.pc_emit.specs.Code.{loop_size, drop_size, test_size, option_size, size, sizes, short, way, upper_half, lower_half, jump, loop_words, drop_words, tested, option_tested, code, codes}
+use Rattle.pc_emit.specs.Image.{found_from, slot_of, closing, functions_size, entrances_from, function_code, functions_code, condition_size, conditions_size, conditions_words, abort_lines, entrances_of, whole_of, image_of}
+use Rattle.pc_emit.specs.Fits.{CanBeEmitted}
 use Rattle.pc_emit.proofs.Lists.{all_append}
 use Rattle.pc_emit.proofs.Numbers.{fits_half, way_small, short_is}
 use Rattle.pc_emit.proofs.Codes.{code_fits}

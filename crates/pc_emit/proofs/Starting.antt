@@ -1,5 +1,5 @@
 -- The forks of a function start slots of its own, and a function that holds no pause is the same in every slot.
-use Rattle.std.proofs.Common.{◌≡◌, ℕ, suc, ◌+◌, ◌<◌, ◌≤◌, List, [], ◌∷◌, ◌++◌, length, refl, sym, ap, subst, ◌∙◌, arith, length-append}
+use Rattle.std.proofs.Common.{◌≡◌, ℕ, ◌+◌, ◌≤◌, List, [], ◌∷◌, ◌++◌, length, refl, ap, subst, ◌∙◌, arith}
 use Rattle.mb_isa.specs.declared.words.Instr.TheVariants.{Bri, Next}
 use Rattle.pc_ir.specs.Flow.{Node, Nodes, straight, sequence, branch, turns, bounded, call, pause, fork, guard, no_nodes, and, Flows}
 use Rattle.pc_region.specs.Laid.{Placing}
@@ -7,9 +7,9 @@ use Rattle.pc_region.specs.Program.{HasRoom, HaveRoom}
 use Rattle.pc_region.specs.Words.{Writing}
 use Rattle.pc_region.specs.Limits.{threads_of, threads_of_all}
 use Rattle.pc_region.specs.Layable.{IsLayable, AreLayable, IsInstant, AreInstant}
-use Rattle.pc_emit.specs.Part.{Part, joined, just}
-use Rattle.pc_emit.specs.Code.{loop_size, drop_size, test_size, option_size, size, sizes, short, jump, loop_words, drop_words, tested, option_tested, code, codes}
-use Rattle.pc_emit.proofs.Lists.{IsAt, at_first, at_second, at_moved}
+use Rattle.pc_emit.specs.Part.{joined, just}
+use Rattle.pc_emit.specs.Code.{loop_size, drop_size, test_size, option_size, size, short, jump, loop_words, drop_words, tested, option_tested, code, codes}
+use Rattle.pc_emit.proofs.Lists.{IsAt, at_first, at_second}
 use Rattle.pc_emit.proofs.Laying.{Starts, AllStart}
 
 module _ (IsStarted : ℕ → List ℕ → Type 0) (known : Flows) (placing : Placing) where

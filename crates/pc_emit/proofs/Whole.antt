@@ -1,10 +1,9 @@
 -- The image of a flow holds the flow.
-use Rattle.std.proofs.Common.{◌≡◌, ℕ, zero, suc, ◌+◌, ◌<◌, ◌≤◌, Bool, IsTrue, Option, Some, None, List, [], ◌∷◌, ◌++◌, length, map, slice_get, refl, sym, ap, subst, ◌∙◌, arith, append-nil, length-append}
+use Rattle.std.proofs.Common.{◌≡◌, ℕ, zero, suc, ◌+◌, ◌<◌, ◌≤◌, IsTrue, Some, None, List, [], ◌∷◌, ◌++◌, length, slice_get, refl, sym, ap, subst, ◌∙◌, arith, append-nil, length-append}
 use Rattle.std.specs.Prelude.{slice_index_or}
 use Rattle.std.specs.List.{AllByRecursion}
 use Rattle.std.proofs.lemmas.List.{length-map, get_or-map}
 use Rattle.std.proofs.lemmas.List.FromFn.{length-range_with_len}
-use Rattle.mb_isa.specs.declared.words.Instr.{Instr}
 use Rattle.mb_isa.specs.declared.words.Instr.TheVariants.{End, Ret}
 use Rattle.mb_isa.specs.Costs.{IsCosts}
 use Rattle.pt_image.specs.declared.image.Parts.{Parts}
@@ -13,28 +12,28 @@ use Rattle.pc_ir.specs.Residuals.{body_at}
 use Rattle.pc_region.specs.Places.{slot_start}
 use Rattle.pc_region.specs.Laid.{Placing, HasChildren, Laid}
 use Rattle.pc_region.specs.Counts.{Sizes}
-use Rattle.pc_region.specs.Program.{InOrder, IsThread, IsRoutine}
+use Rattle.pc_region.specs.Program.{IsThread, IsRoutine}
 use Rattle.pc_region.specs.Words.{Writing, HasSteps, HasTest}
 use Rattle.pc_region.specs.Limits.{threads_of, started_by}
 use Rattle.pc_region.specs.Image.{IsImageOf}
 use Rattle.pc_region.specs.Numbering.{all_started, AreSlots, slots_of, function_of, parent_of, first_started, HaveSlots}
-use Rattle.pc_region.specs.Layable.{pauses_in, forks_of, guards_of, numbers_in, IsCalled}
+use Rattle.pc_region.specs.Layable.{pauses_in, forks_of, guards_of, numbers_in}
 use Rattle.pc_emit.specs.Part.{Part, joined, just}
 use Rattle.pc_emit.specs.Code.{size, short, code}
-use Rattle.pc_emit.specs.Image.{slot_of, functions_size, function_code, functions_code, conditions_size, conditions_words, entrances_of, whole_of, code_size, image_of}
+use Rattle.pc_emit.specs.Image.{slot_of, functions_size, function_code, functions_code, conditions_words, entrances_of, whole_of, code_size, image_of}
 use Rattle.pc_regs.specs.Writings.{NodeWritten}
 use Rattle.pc_emit.specs.Fits.{placed, CanBeEmitted, AreSizes}
 use Rattle.pc_emit.proofs.Lists.{IsAt, at_whole, at_moved, at_within}
 use Rattle.pc_emit.proofs.Numbers.{short_is}
 use Rattle.pc_emit.proofs.Lengths as lengths
-use Rattle.pc_emit.proofs.Stands.{Spot, past, Stands, first_stands, second_stands, Numbers}
+use Rattle.pc_emit.proofs.Stands.{Spot, Stands, first_stands, second_stands, Numbers}
 use Rattle.pc_emit.proofs.Made.{IsMade, has_at}
-use Rattle.pc_emit.proofs.Laying.{Starts, IsTabled, laid}
+use Rattle.pc_emit.proofs.Laying.{IsTabled, laid}
 use Rattle.pc_emit.proofs.Starting.{starts_at, instant_starts, instant_layable, code_instant}
 use Rattle.pc_emit.proofs.Entrances.{found_there, found_nowhere, entrance_within, functions_long, functions_counted, Found, find}
 use Rattle.pc_emit.proofs.Conditions.{conditions_long, conditions_some, lines_long, line_there, condition_there}
 
-all_body : (P : Node → Type 0) (nodes : List Node) (g : ℕ) → AllByRecursion P nodes → g < length nodes → P (body_at nodes g)
+pub all_body : (P : Node → Type 0) (nodes : List Node) (g : ℕ) → AllByRecursion P nodes → g < length nodes → P (body_at nodes g)
 all_body P [] g h lt = absurd (omega (arith, lt))
 all_body P (n ∷ nodes) zero h lt = h.0
 all_body P (n ∷ nodes) (suc g) h lt = all_body P nodes g h.1 (omega (arith, lt))
@@ -82,7 +81,7 @@ module _ (f : Flow) (writing : Writing) (placing : Placing) (further : ℕ) (can
     handlers = length f.aborts;
   }
 
-  functions_are : length functions.words ≡ functions_size writing f.bodies
+  pub functions_are : length functions.words ≡ functions_size writing f.bodies
   functions_are = functions_long writing entrances slots (first_started f) f.bodies 0 0
 
   pub whole_long : length whole.words ≡ code_size writing f
@@ -94,10 +93,10 @@ module _ (f : Flow) (writing : Writing) (placing : Placing) (further : ℕ) (can
   pub made : IsMade image whole
   made = let e = whole_long in let h = can.code in record { code = refl; room = omega (arith, e, h) }
 
-  stands : Stands whole start (joined functions conditions)
+  pub stands : Stands whole start (joined functions conditions)
   stands = record { words = at_whole whole.words; pauses = at_whole whole.pauses; forks = at_whole whole.forks; handlers = at_whole whole.handlers }
 
-  numbers : Numbers counts start (numbers_in pauses_in f.bodies) (numbers_in forks_of f.bodies) (numbers_in guards_of f.bodies)
+  pub numbers : Numbers counts start (numbers_in pauses_in f.bodies) (numbers_in forks_of f.bodies) (numbers_in guards_of f.bodies)
   numbers =
       let ps = numbers_in pauses_in f.bodies in
       let fs = numbers_in forks_of f.bodies in
@@ -114,10 +113,10 @@ module _ (f : Flow) (writing : Writing) (placing : Placing) (further : ℕ) (can
       ∙ (functions_counted writing entrances slots (first_started f) f.bodies 0 0).guards_are
       ∙ ap length can.laid.guards ∙ length-range_with_len 0 (length f.aborts)
 
-  slots_long : length image.slots ≡ length slots
+  pub slots_long : length image.slots ≡ length slots
   slots_long = length-map slots (λ g. short (slice_index_or entrances g 0))
 
-  tabled : IsTabled image whole (is_weak f.aborts) counts
+  pub tabled : IsTabled image whole (is_weak f.aborts) counts
   tabled =
       let many = conditions_some writing f.aborts in
       let long = handlers_long in
@@ -150,6 +149,11 @@ module _ (f : Flow) (writing : Writing) (placing : Placing) (further : ℕ) (can
   abbrev IsStarted : (s child : ℕ) → List ℕ → Type 0
   IsStarted s child fs = HasChildren (parent_of f) image known (is_weak f.aborts) (HasSteps image writing) (HasTest image writing) spots s child fs
 
+  pub conditions_at : IsAt whole.words (functions_size writing f.bodies) (conditions_words writing f.aborts)
+  conditions_at =
+      let e = functions_are in
+      at_moved (conditions_words writing f.aborts) (second_stands whole start functions conditions stands).words (omega (arith, e))
+
   -- ---- threads
 
   children : (c : ℕ) → c < length slots → (before fs behind : List ℕ) → started_by f.bodies (function_of f c) ≡ before ++ (fs ++ behind) → 1 ≤ length fs →
@@ -160,7 +164,7 @@ module _ (f : Flow) (writing : Writing) (placing : Placing) (further : ℕ) (can
       let same = slots_long in
       (some, omega (arith, within, same), h.children, h.run)
 
-  starts_here : (c : ℕ) → c < length slots → slot_start image c ≡ spots.entrance (function_of f c)
+  pub starts_here : (c : ℕ) → c < length slots → slot_start image c ≡ spots.entrance (function_of f c)
   starts_here c lt = get_or-map (λ g. short (slice_index_or entrances g 0)) slots c 0 0 lt ∙ enters (function_of f c)
 
   module _ (sizes : Sizes) (counted : AreSizes f writing sizes) (costs : List ℕ) where
@@ -228,11 +232,6 @@ module _ (f : Flow) (writing : Writing) (placing : Placing) (further : ℕ) (can
         }
 
     -- ---- the whole
-
-    conditions_at : IsAt whole.words (functions_size writing f.bodies) (conditions_words writing f.aborts)
-    conditions_at =
-        let e = functions_are in
-        at_moved (conditions_words writing f.aborts) (second_stands whole start functions conditions stands).words (omega (arith, e))
 
     pub image_holds : IsCosts costs → IsImageOf (parent_of f) image costs f writing sizes spots
     image_holds priced =

@@ -1,5 +1,5 @@
 -- The image of a flow: docs/architecture.md, "Layout".
-use Rattle.std.specs.Prelude.{ℕ, ◌+◌, ◌==◌, ℤ, pos, Bool, if◌then◌else◌, List, [], ◌∷◌, ◌++◌, map, replicate, length, slice_index_or, unwrap_or, Option, Some, None}
+use Rattle.std.specs.Prelude.{ℕ, ◌+◌, ◌==◌, pos, Bool, if◌then◌else◌, List, [], ◌∷◌, ◌++◌, map, replicate, slice_index_or, unwrap_or, Option, Some, None}
 use Rattle.mb_isa.specs.declared.words.Instr.{Instr}
 use Rattle.mb_isa.specs.declared.words.Instr.TheVariants.{End, Ret, Cend}
 use Rattle.mb_isa.specs.Codes.{code_of}

@@ -1,15 +1,22 @@
 -- What is proved of the layout.
-use Rattle.std.specs.Prelude.{ℕ, List}
+use Rattle.std.specs.Prelude.{ℕ, ◌≤◌, List}
 use Rattle.mb_isa.specs.Costs.{IsCosts}
 use Rattle.pt_image.specs.Form.{AreWords}
 use Rattle.pt_image.specs.Ranges.{IsImage}
 use Rattle.pc_ir.specs.Flow.{Flow}
+use Rattle.tk_cert.specs.declared.cert.Walk.{Walk}
+use Rattle.tk_bound.specs.Bounded.{IsAcceptedFor}
+use Rattle.tk_bound.specs.Walks.{most_cycles, IsWorst}
+use Rattle.tk_paths.specs.Programs.{IsProgram, certificate}
+use Rattle.tk_paths.specs.Counts.{AreSmall}
 use Rattle.pc_region.specs.Laid.{Placing}
 use Rattle.pc_region.specs.Counts.{Sizes}
 use Rattle.pc_region.specs.Words.{Writing}
 use Rattle.pc_region.specs.Image.{IsImageOf}
 use Rattle.pc_region.specs.Numbering.{parent_of}
+use Rattle.pc_region.specs.Limits.{IsWithinLimits}
 use Rattle.pc_emit.specs.Image.{image_of}
+use Rattle.pc_emit.specs.Sections.{program_of}
 use Rattle.pc_emit.specs.Eots.{ListsAll}
 use Rattle.pc_emit.specs.Fits.{placed, CanBeEmitted, AreSizes}
 
@@ -31,3 +38,25 @@ abbrev pub ALaidFlowListsAll : Type 0
 ALaidFlowListsAll =
     (f : Flow) (writing : Writing) (placing : Placing) (further : ℕ) →
     CanBeEmitted f writing placing further → ListsAll f (image_of writing f further)
+
+-- It holds the flow's program, as certificates see programs.
+abbrev pub ALaidFlowIsAProgram : Type 0
+ALaidFlowIsAProgram =
+    (f : Flow) (writing : Writing) (placing : Placing) (further : ℕ) →
+    CanBeEmitted f writing placing further → IsProgram (image_of writing f further) (program_of writing f)
+
+-- So the certificate of that program, with any walk, is accepted whatever the words cost, and its bound is the worst of the image.
+abbrev pub ALaidFlowIsCertified : Type 0
+ALaidFlowIsCertified =
+    (f : Flow) (writing : Writing) (placing : Placing) (further : ℕ) (costs : List ℕ) (walk : Walk) →
+    CanBeEmitted f writing placing further → IsCosts costs →
+    IsAcceptedFor (image_of writing f further) (certificate (image_of writing f further) costs (program_of writing f) walk) costs
+    × ((certificate (image_of writing f further) costs (program_of writing f) walk).bound ≤ most_cycles →
+    IsWorst (image_of writing f further) costs (certificate (image_of writing f further) costs (program_of writing f) walk).bound)
+
+-- Within the limits of the language the counts of the program that it holds are within what a tick may cost at most.
+abbrev pub AFlowIsSmall : Type 0
+AFlowIsSmall =
+    (f : Flow) (writing : Writing) (placing : Placing) (further : ℕ) (sizes : Sizes) → CanBeEmitted f writing placing further →
+    AreSizes f writing sizes → IsWithinLimits (image_of writing f further) f writing sizes →
+    IsProgram (image_of writing f further) (program_of writing f) → AreSmall (image_of writing f further) (program_of writing f)

@@ -1,6 +1,9 @@
 pub mod Part
 pub mod Code
 pub mod Image
+pub mod Sections
+pub mod Units
+pub mod Made
 pub mod Fits
 pub mod Eots
 pub mod Laws

@@ -13,6 +13,7 @@ use Rattle.pc_flows.proofs.Program.{fit, long, main-there, slot-thread}
 use Rattle.pc_flows.proofs.Counting.{slots-few, slots-once}
 use Rattle.pc_flows.proofs.Laying.{slot-layable, slot-room, is-called, in-slot-or-called}
 use Rattle.pc_flows.proofs.Numbers.{pauses-counted, forks-counted, guards-counted}
+use Rattle.pc_flows.proofs.Shaped.{is-shaped}
 
 pub can-be-laid : (t : Typing) → IsTyped t → IsWithin t → (entrance : ℕ → ℕ) → CanBeLaid (typed_flow t) (placing_of t entrance)
 can-be-laid t typed within entrance = record {
@@ -29,4 +30,5 @@ can-be-laid t typed within entrance = record {
   pauses = pauses-counted t typed within;
   forks = forks-counted t typed within;
   guards = guards-counted t typed within;
+  shape = is-shaped t typed within entrance;
 }

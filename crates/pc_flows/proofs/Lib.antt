@@ -21,6 +21,8 @@ pub mod Laying
 pub mod Within
 pub mod Spans
 pub mod Numbers
+pub mod Alike
+pub mod Shaped
 pub mod Laid
 pub mod Words
 pub mod Rooms

@@ -8,6 +8,7 @@ use Rattle.pc_region.specs.Laid.{Placing, Lasts, Passes}
 use Rattle.pc_region.specs.Program.{InOrder, HasRoom}
 use Rattle.pc_region.specs.Image.{IsQuiet, condition_of}
 use Rattle.pc_region.specs.Numbering.{slots_of, function_of}
+use Rattle.pc_region.specs.Shaped.{IsShaped}
 
 -- Inside so many aborts: a loop without a bound has a body that doesn't end in the tick of its start, a bounded one a body that
 -- does, and its number is one of 32 bits; a fork starts some thread; no more than eight aborts stand in one another.
@@ -122,3 +123,4 @@ pub record CanBeLaid (f : Flow) (placing : Placing) : Type 0 where
   pub pauses : AreCounted (numbers_in pauses_in f.bodies)
   pub forks : AreCounted (numbers_in forks_of f.bodies)
   pub guards : numbers_in guards_of f.bodies ≡ range_with_len 0 (length f.aborts)
+  pub shape : IsShaped f placing

@@ -14,6 +14,7 @@ pub mod Image
 pub mod Sizing
 pub mod Limits
 pub mod Numbering
+pub mod Shaped
 pub mod Layable
 pub mod Runs
 pub mod Slotwise

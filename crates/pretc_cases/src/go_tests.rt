@@ -125,8 +125,7 @@ go p im x
 gone p im
 check im ce
 check im ce - x
-checks im ce -
-run p - im ce";
+checks im ce -";
     assert_eq!(rt; first_used(rt.alloc(), lines)?, "none");
     Ok(())
 }

@@ -1,5 +1,5 @@
 //! The top call over objects in memory: its reports, its statuses, and each load, store, pull, push and flush
-//! that fails in turn, for `go`, `mean`, `gen`, `print`, `rules`, `check` and `exec`; and programs of every construct, of
+//! that fails in turn, for `go`, `run`, `mean`, `gen`, `job`, `print`, `rules`, `check` and `exec`; and programs of every construct, of
 //! which `go` and `mean` tell the same outputs. Beside it, values of operators.
 //!
 //! There is nothing here but tests and what they call. The helpers promise nothing, so that a test knows no more of a
@@ -26,3 +26,5 @@ mod operator_tests;
 mod print_tests;
 #[cfg(test)]
 mod rules_tests;
+#[cfg(test)]
+mod run_tests;

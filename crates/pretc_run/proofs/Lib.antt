@@ -1,3 +1,4 @@
+mod Counting
 pub mod Fronts
 mod MeanStepping
 pub mod Ports

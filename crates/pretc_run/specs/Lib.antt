@@ -1,3 +1,4 @@
+pub mod Counted
 pub mod Endings
 pub mod Lines
 pub mod MeanUnderWay

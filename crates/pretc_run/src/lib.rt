@@ -12,6 +12,7 @@ mod endings;
 mod meaning;
 mod reporting;
 mod running;
+mod summing;
 
 pub use beginning::mean_program;
 pub use closing::{close, finish, finish_with, push_line};
@@ -19,3 +20,4 @@ pub use endings::{Ending, WRITE_FAULT};
 pub use meaning::{mean, mean_trace};
 pub use reporting::report;
 pub use running::run_trace;
+pub use summing::{COUNTED_TICKS, Totals, sum_ticks};

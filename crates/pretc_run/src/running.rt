@@ -10,8 +10,8 @@ use mb_core::Machine;
 use pt_outside::{Failed, Sink, Source};
 use pt_trace::{LineBuffer, TraceFault, TraceReader, report_line, worst_line};
 
-// The greater of two numbers.
-fn greater(a: u64, b: u64) -> u64
+/// The greater of two numbers.
+pub fn greater(a: u64, b: u64) -> u64
     ensures { result ≡ max a b }
 {
     if a < b { b } else { a }

@@ -32,13 +32,13 @@ all_of : {A : Type 0} (P : A → Type 0) (xs : List A) → AllByRecursion P xs �
 all_of P [] h = All-nil P
 all_of P (x ∷ xs) h = All-cons P x xs h.0 (all_of P xs h.1)
 
-unit_is_costs : IsCosts unit
+pub unit_is_costs : IsCosts unit
 unit_is_costs =
     let one : (1 ≤ 1) × (1 < 256) = (omega arith, omega arith) in
     record { count = refl; range = all_of (λ n. (1 ≤ n) × (n < 256)) unit (one, (one, (one, (one, (one, (one, (one, (one, (one, (one, (one, (one, (one, (one, (one, (one, (one, (one, (one, (one, (one, (one, tt)))))))))))))))))))))) }
 
 -- the rows that were read are rows of words
-read_rows : (width : ℕ) (before after : Option (List ℕ)) (rows : List (List ℤ)) → HasRead width before after rows → All (IsWordRow width) rows
+pub read_rows : (width : ℕ) (before after : Option (List ℕ)) (rows : List (List ℤ)) → HasRead width before after rows → All (IsWordRow width) rows
 read_rows width before after rows h =
     let P : List (List ℤ) → Type 0 = λ l. All (IsWordRow width) l in
     subst P (ap (λ r. r.rows) h.gave) (rows_fit_from width 1 h.lines)
@@ -47,7 +47,7 @@ each_of : {A : Type 0} (P : A → Type 0) (xs : List A) → All P xs → AllByRe
 each_of P [] h = tt
 each_of P (x ∷ xs) h = (All-head P x xs h, each_of P xs (All-tail P x xs h))
 
-are_rows : (width : ℕ) (rows : List (List ℤ)) → All (IsWordRow width) rows → AllByRecursion IsRow rows
+pub are_rows : (width : ℕ) (rows : List (List ℤ)) → All (IsWordRow width) rows → AllByRecursion IsRow rows
 are_rows width [] h = tt
 are_rows width (row ∷ rows) h =
     (each_of (FitsSigned w32) row (All-head (IsWordRow width) row rows h).1, are_rows width rows (All-tail (IsWordRow width) row rows h))

@@ -65,6 +65,19 @@ stored_after old mid new name text a s = record {
   store_faults = s.store_faults ∙ a.store_faults;
 }
 
+stores_before : (old mid new : Option Files) (name text : List ℕ) → Stores old mid name text → KeepsFiles mid new → Stores old new name text
+stores_before None mid new name text s k = tt
+stores_before (Some fs) None new name text s k = absurd s
+stores_before (Some fs) (Some gs) None name text s k = absurd k
+stores_before (Some fs) (Some gs) (Some hs) name text s k = k ∙ s
+
+pub stored_before : (old mid new : ShelfTold) (name text : List ℕ) → IsStored name text old mid → IsAsBefore mid new → IsStored name text old new
+stored_before old mid new name text s a = record {
+  stored = stores_before old.files mid.files new.files name text s.stored a.files;
+  load_faults = a.load_faults ∙ s.load_faults;
+  store_faults = a.store_faults ∙ s.store_faults;
+}
+
 pub store_fails_after : (old mid new : ShelfTold) (name text : List ℕ) (e : Ending) → IsAsBefore old mid → StoreFails name text mid new e → StoreFails name text old new e
 store_fails_after old mid new name text _ a (store_fault f) =
     let P : ℕ → Type 0 = λ n. Rose n new.store_faults in

@@ -1,16 +1,13 @@
 -- What a call comes to tells of its answer's cause, and of what stands after it.
-use Rattle.std.proofs.Common.{◌≡◌, ◌≢◌, ◌≤◌, ◌+◌, ◌⊎◌, inl, inr, ℕ, ℤ, true, List, [], ◌∷◌, ◌++◌, length, Option, Some, None, refl, sym, ap, subst, ◌∙◌, length-append, arith}
+use Rattle.std.proofs.Common.{◌≡◌, ◌≢◌, ◌≤◌, ◌+◌, inr, ℕ, ℤ, List, [], ◌∷◌, ◌++◌, length, Option, Some, refl, sym, subst, ◌∙◌, length-append, arith}
 use Rattle.pt_outside.specs.Counts.{Rose}
-use Rattle.pt_outside.specs.Files.{KeepsFiles}
-use Rattle.pt_outside.specs.Told.{ShelfTold, SourceTold, SinkTold}
 use Rattle.pt_trace.specs.Given.{HasRead}
 use Rattle.pt_image.specs.declared.image.Parts.{Parts}
 use Rattle.mb_isa.specs.Costs.{unit}
 use Rattle.pretc_run.specs.declared.endings.Ending.{Ending}
-use Rattle.pretc_run.specs.declared.endings.Ending.TheVariants.{Done, ReadFault, WantOfMemory, StoreFault, BadTrace}
-use Rattle.pretc_run.specs.Endings.{number_of, line_of}
-use Rattle.pretc_run.specs.Writing.{Wrote, BrokeOff, IsAnswered, Answers, answered, broke_off}
-use Rattle.pretc_run.specs.Running.{HasFailed, RunEnds, run_done, run_bad, run_fault, run_trapped, IsTrapped, IsNext, next_tick, next_last}
+use Rattle.pretc_run.specs.Endings.{number_of}
+use Rattle.pretc_run.specs.Writing.{Wrote, IsAnswered}
+use Rattle.pretc_run.specs.Running.{RunEnds, run_bad, run_fault, run_trapped, IsTrapped}
 use Rattle.pretc_top.specs.declared.commands.Command.{Command}
 use Rattle.pretc_top.specs.declared.commands.Command.TheVariants.{Go, Mean, Exec}
 use Rattle.pc_meaning.specs.Programs.{program_of}
@@ -18,235 +15,17 @@ use Rattle.pretc_run.specs.Meant.{width_of, meant_lines, MeanEnds, mean_done, me
 use Rattle.mb_pfu.specs.declared.TrapKind.{TrapKind}
 use Rattle.mb_pfu.specs.declared.TrapKind.TheVariants.{BadAddress}
 use Rattle.mb_step.specs.Run.{Ticked, Trapped, run_of}
-use Rattle.pretc_top.specs.Exec.{IsApproved, exec_lines, AllTrapSafely, ExecRan, ExecPulled, ExecBroke, in_the_bound, behind_the_bound}
+use Rattle.pretc_top.specs.Exec.{IsApproved, exec_lines, AllTrapSafely, ExecRan, ExecBroke, in_the_bound, behind_the_bound}
 use Rattle.pretc_top.specs.Mean.{IsMeant, MeanRan, MeanBroke}
-use Rattle.pretc_top.specs.Outside.{Outside, IsLater}
+use Rattle.pretc_top.specs.Outside.{Outside}
 use Rattle.pretc_top.specs.Loading.{IsAsBefore}
 use Rattle.pretc_top.specs.Go.{cycles_most, go_lines, IsMade, GoRan, GoBroke}
-use Rattle.pretc_top.specs.Comes.{Ends, no_command, go_ends, check_ends, print_ends, rules_ends, mean_ends, exec_ends, gen_ends, Ran, go_ran, exec_ran, mean_ran, Broke, go_broke, exec_broke, mean_broke, Comes, ends, ran, broke}
-use Rattle.pretc_top.specs.Causes.{BoundHolds, CostsRefused, IsRefusedBy, LacksFile, IsSent, Causes}
-use Rattle.pretc_top.specs.Stands.{OnlySaid, GoStopped, AfterReadFault, load_failed, pull_failed, mean_pull_failed, exec_pull_failed, GoPulled, AfterWriteFault, before_the_trace, in_the_report, in_the_meaning, in_the_bound_line, behind_the_bound_line, AfterMemory, memory_before, memory_stored, memory_at_a_tick, AfterBadTrace, go_bad_trace, mean_bad_trace, exec_bad_trace, AfterTrap, exec_trapped, AfterStoreFault, go_store_failed}
-use Rattle.pretc_top.proofs.Causing.{Cause, by_done, by_refusal, by_usage, by_load, by_memory, by_stored, by_image, by_cert, by_costs, by_cost, by_demand, by_store, by_absence, cause}
-
--- ---- an ending without a run, by the number that is answered
-
-module _ (old new : Outside) where
-  -- the shelf's counts
-  pub record ShelfCounts (n : ℕ) : Type 0 where
-    pub load_later : old.shelf.load_faults ≤ new.shelf.load_faults
-    pub store_later : old.shelf.store_faults ≤ new.shelf.store_faults
-    pub load_kept : n ≢ 3 → new.shelf.load_faults ≡ old.shelf.load_faults
-    pub store_kept : n ≢ 11 → new.shelf.store_faults ≡ old.shelf.store_faults
-
-  same : (n : ℕ) → new.shelf.load_faults ≡ old.shelf.load_faults → new.shelf.store_faults ≡ old.shelf.store_faults → ShelfCounts n
-  same n l s = record { load_later = omega (arith, l); store_later = omega (arith, s); load_kept = λ h. l; store_kept = λ h. s }
-
-  kept : (n : ℕ) → IsAsBefore old.shelf new.shelf → ShelfCounts n
-  kept n k = same n k.load_faults k.store_faults
-
-  pub shelf_counts : (command : Option (Command (List ℕ))) (due : List (List ℕ)) (e : Ending) → Cause old new command due e → ShelfCounts (number_of e)
-  shelf_counts _ _ _ (by_done command due h k) = kept 0 k
-  shelf_counts _ _ _ (by_refusal command rule span r k) = kept 1 k
-  shelf_counts _ _ _ (by_usage s) = same 2 (ap (λ (t : ShelfTold). t.load_faults) s) (ap (λ (t : ShelfTold). t.store_faults) s)
-  shelf_counts _ _ _ (by_load command f) = record { load_later = f.later; store_later = omega (arith, f.store_faults); load_kept = λ h. absurd (h refl); store_kept = λ h. f.store_faults }
-  shelf_counts _ _ _ (by_memory command k) = kept 5 k
-  shelf_counts _ _ _ (by_stored program name image m) = same 5 m.stored.load_faults m.stored.store_faults
-  shelf_counts _ _ _ (by_image command due number k) = kept 8 k
-  shelf_counts _ _ _ (by_cert command due number k) = kept 8 k
-  shelf_counts _ _ _ (by_costs command due rule r k) = kept 6 k
-  shelf_counts _ _ _ (by_cost command due rule class r k) = kept 6 k
-  shelf_counts _ _ _ (by_demand command due d k) = kept 9 k
-  shelf_counts _ _ _ (by_store program name image b f) = record { load_later = omega (arith, f.load_faults); store_later = f.later; load_kept = λ h. f.load_faults; store_kept = λ h. absurd (h refl) }
-  shelf_counts _ _ _ (by_absence command l k) = kept 17 k
-
-  bound_by : (command : Option (Command (List ℕ))) (due : List (List ℕ)) (e : Ending) → number_of e ≡ 0 → Cause old new command due e → BoundHolds old.shelf.files command
-  bound_by _ _ _ n (by_done command due h k) = h
-  bound_by _ _ _ n c = absurd (omega (arith, n))
-
-  refused_by : (command : Option (Command (List ℕ))) (due : List (List ℕ)) (e : Ending) → number_of e ≡ 1 → Cause old new command due e → IsRefusedBy old.shelf.files command
-  refused_by _ _ _ n (by_refusal command rule span r k) = r
-  refused_by _ _ _ n c = absurd (omega (arith, n))
-
-  costs_by : (command : Option (Command (List ℕ))) (due : List (List ℕ)) (e : Ending) → number_of e ≡ 6 → Cause old new command due e → CostsRefused old.shelf.files command
-  costs_by _ _ _ n (by_costs command due rule r k) = r
-  costs_by _ _ _ n (by_cost command due rule class r k) = r
-  costs_by _ _ _ n c = absurd (omega (arith, n))
-
-  usage_by : (command : Option (Command (List ℕ))) (due : List (List ℕ)) (e : Ending) → number_of e ≡ 2 → Cause old new command due e → command ≡ None
-  usage_by _ _ _ n (by_usage s) = refl
-  usage_by _ _ _ n c = absurd (omega (arith, n))
-
-  lacks_by : (command : Option (Command (List ℕ))) (due : List (List ℕ)) (e : Ending) → number_of e ≡ 17 → Cause old new command due e → LacksFile old.shelf.files command
-  lacks_by _ _ _ n (by_absence command l k) = l
-  lacks_by _ _ _ n c = absurd (omega (arith, n))
-
-  load_by : (command : Option (Command (List ℕ))) (due : List (List ℕ)) (e : Ending) → number_of e ≡ 3 → Cause old new command due e →
-      new.source ≡ old.source → Wrote old.sink new.sink due → AfterReadFault old new command
-  load_by _ _ _ n (by_load command f) s w = load_failed command f (record { wrote = w; source = s })
-  load_by _ _ _ n c s w = absurd (omega (arith, n))
-
-  memory_by : (command : Option (Command (List ℕ))) (due : List (List ℕ)) (e : Ending) → number_of e ≡ 5 → Cause old new command due e →
-      new.source ≡ old.source → Wrote old.sink new.sink due → AfterMemory old new command
-  memory_by _ _ _ n (by_memory command k) s w = memory_before command k (record { wrote = w; source = s })
-  memory_by _ _ _ n (by_stored program name image m) s w = memory_stored program name image m (record { wrote = w; source = s })
-  memory_by _ _ _ n c s w = absurd (omega (arith, n))
-
-  store_by : (command : Option (Command (List ℕ))) (due : List (List ℕ)) (e : Ending) → number_of e ≡ 11 → Cause old new command due e →
-      new.source ≡ old.source → Wrote old.sink new.sink due → AfterStoreFault old new command
-  store_by _ _ _ n (by_store program name image b f) s w = go_store_failed program name image b f (record { wrote = w; source = s })
-  store_by _ _ _ n c s w = absurd (omega (arith, n))
-
-  no_seven : (command : Option (Command (List ℕ))) (due : List (List ℕ)) (e : Ending) → Cause old new command due e → number_of e ≢ 7
-  no_seven _ _ _ (by_usage s) n = absurd (omega (arith, n))
-  no_seven _ _ _ c n = absurd (omega (arith, n))
-
-  no_ten : (command : Option (Command (List ℕ))) (due : List (List ℕ)) (e : Ending) → Cause old new command due e → number_of e ≢ 10
-  no_ten _ _ _ (by_usage s) n = absurd (omega (arith, n))
-  no_ten _ _ _ c n = absurd (omega (arith, n))
-
-  rose_by : (command : Option (Command (List ℕ))) (due : List (List ℕ)) (e : Ending) → number_of e ≡ 3 → Cause old new command due e →
-      Rose old.shelf.load_faults new.shelf.load_faults
-  rose_by _ _ _ n (by_load command f) = f.rose
-  rose_by _ _ _ n c = absurd (omega (arith, n))
-
-  store_rose_by : (command : Option (Command (List ℕ))) (due : List (List ℕ)) (e : Ending) → number_of e ≡ 11 → Cause old new command due e →
-      Rose old.shelf.store_faults new.shelf.store_faults
-  store_rose_by _ _ _ n (by_store program name image b f) = f.rose
-  store_rose_by _ _ _ n c = absurd (omega (arith, n))
-
-  none_is_usage : (command : Option (Command (List ℕ))) (due : List (List ℕ)) (e : Ending) → Ends old new command due e → command ≡ None → number_of e ≡ 2
-  none_is_usage _ _ _ (no_command s) n = refl
-  none_is_usage _ _ _ (go_ends program image e f) n = absurd (cc)
-  none_is_usage _ _ _ (check_ends image cert costs due e f) n = absurd (cc)
-  none_is_usage _ _ _ (print_ends program due e f) n = absurd (cc)
-  none_is_usage _ _ _ (rules_ends program due e f) n = absurd (cc)
-  none_is_usage _ _ _ (mean_ends program e f) n = absurd (cc)
-  none_is_usage _ _ _ (exec_ends image cert costs e f) n = absurd (cc)
-  none_is_usage _ _ _ (gen_ends m due e s f) n = absurd (cc)
-
-  never_four : (e : Ending) → number_of e ≢ 4
-  never_four Done n = absurd (omega (arith, n))
-  never_four e n = absurd (omega (arith, n))
-
-  source_same : new.source ≡ old.source → new.source.faults ≡ old.source.faults
-  source_same s = ap (λ (t : SourceTold). t.faults) s
-
-  -- the lines are written and sent
-  all_sent : (command : Option (Command (List ℕ))) (due : List (List ℕ)) (e : Ending) (answer : ℕ) → Ends old new command due e → new.source ≡ old.source →
-      IsAnswered due (number_of e) old.sink new.sink answer → Causes command old new answer
-  all_sent command due e answer en s h =
-      let c = cause old new command due e en in
-      let is : (n : ℕ) → answer ≡ n → number_of e ≡ n = λ n a. sym h.answer_is ∙ a in
-      let counts = shelf_counts command due e c in
-      let pulls : new.source.faults ≡ old.source.faults = source_same s in
-      let pushes : new.sink.faults ≡ old.sink.faults = h.wrote.faults in
-      record {
-        bound = λ a. bound_by command due e (is 0 a) c;
-        refused = λ a. refused_by command due e (is 1 a) c;
-        usage = λ a. usage_by command due e (is 2 a) c;
-        usage_comes = λ n. inl (h.answer_is ∙ none_is_usage command due e en n);
-        read_fault = λ a. inl (rose_by command due e (is 3 a) c);
-        after_read_fault = λ a. load_by command due e (is 3 a) c s h.wrote;
-        write_fault = λ a. absurd (never_four e (is 4 a));
-        after_write_fault = λ a. absurd (never_four e (is 4 a));
-        after_memory = λ a. memory_by command due e (is 5 a) c s h.wrote;
-        bad_costs = λ a. costs_by command due e (is 6 a) c;
-        bad_trace = λ a. absurd (no_seven command due e c (is 7 a));
-        after_trap = λ a. absurd (no_ten command due e c (is 10 a));
-        store_fault = λ a. store_rose_by command due e (is 11 a) c;
-        after_store_fault = λ a. store_by command due e (is 11 a) c s h.wrote;
-        no_file = λ a. lacks_by command due e (is 17 a) c;
-        sent = λ a. record { lines = due; wrote = h.wrote; sent = h.sent };
-        load_kept = λ three four. counts.load_kept (λ n. three (h.answer_is ∙ n));
-        pull_kept = λ three four. pulls;
-        store_kept = λ eleven four. counts.store_kept (λ n. eleven (h.answer_is ∙ n));
-        later = record { load_faults = counts.load_later; store_faults = counts.store_later; source_faults = omega (arith, pulls); sink_faults = omega (arith, pushes) };
-      }
-
-  -- nothing is told of the cause where a push or a flush failed
-  failed : (command : Option (Command (List ℕ))) (answer : ℕ) → answer ≡ 4 → Rose old.sink.faults new.sink.faults → AfterWriteFault old new command → IsLater old new →
-      Causes command old new answer
-  failed command answer is rose after later =
-      let other : (n : ℕ) → n ≢ 4 → answer ≡ n → ⊥ = λ n h a. h (sym a ∙ is) in
-      record {
-        bound = λ a. absurd (omega (arith, a, is));
-        refused = λ a. absurd (omega (arith, a, is));
-        usage = λ a. absurd (omega (arith, a, is));
-        usage_comes = λ n. inr is;
-        read_fault = λ a. absurd (omega (arith, a, is));
-        after_read_fault = λ a. absurd (omega (arith, a, is));
-        write_fault = λ a. rose;
-        after_write_fault = λ a. after;
-        after_memory = λ a. absurd (omega (arith, a, is));
-        bad_costs = λ a. absurd (omega (arith, a, is));
-        bad_trace = λ a. absurd (omega (arith, a, is));
-        after_trap = λ a. absurd (omega (arith, a, is));
-        store_fault = λ a. absurd (omega (arith, a, is));
-        after_store_fault = λ a. absurd (omega (arith, a, is));
-        no_file = λ a. absurd (omega (arith, a, is));
-        sent = λ a. absurd (a is);
-        load_kept = λ three four. absurd (four is);
-        pull_kept = λ three four. absurd (four is);
-        store_kept = λ eleven four. absurd (four is);
-        later = later;
-      }
-
-  by_ends : (command : Option (Command (List ℕ))) (due : List (List ℕ)) (e : Ending) (answer : ℕ) → Ends old new command due e → new.source ≡ old.source →
-      Answers due (number_of e) old.sink new.sink answer → Causes command old new answer
-  by_ends command due e answer en s (answered h) = all_sent command due e answer en s h
-  by_ends command due e answer en s (broke_off whole rest is d b) =
-      let counts = shelf_counts command due e (cause old new command due e en) in
-      let pulls : new.source.faults ≡ old.source.faults = source_same s in
-      failed command answer is b.rose (before_the_trace command due whole rest e en s d b)
-      (record { load_faults = counts.load_later; store_faults = counts.store_later; source_faults = omega (arith, pulls); sink_faults = b.later })
-
--- ---- a run
-
-module _ (old new : Outside) (image : Parts) (costs : List ℕ) (most : ℕ) (rows : List (List ℤ)) where
-  run_rose : (last : List ℕ) (e : Ending) → RunEnds image costs most rows old.source new.source last e → number_of e ≡ 3 → Rose old.source.faults new.source.faults
-  run_rose _ _ (run_fault ticked cut failed) n = failed.rose
-  run_rose _ _ r n = absurd (omega (arith, n))
-
-  run_kept : (last : List ℕ) (e : Ending) → RunEnds image costs most rows old.source new.source last e → number_of e ≢ 3 → new.source.faults ≡ old.source.faults
-  run_kept _ _ (run_done ticked whole stays) n = stays
-  run_kept _ _ (run_bad rule line ticked bad stays) n = stays
-  run_kept _ _ (run_fault ticked cut failed) n = absurd (n refl)
-  run_kept _ _ (run_trapped row kind at read ended trapped stays) n = stays
-
-  run_later : (last : List ℕ) (e : Ending) → RunEnds image costs most rows old.source new.source last e → old.source.faults ≤ new.source.faults
-  run_later _ _ (run_done ticked whole stays) = omega (arith, stays)
-  run_later _ _ (run_bad rule line ticked bad stays) = omega (arith, stays)
-  run_later _ _ (run_fault ticked cut failed) = failed.later
-  run_later _ _ (run_trapped row kind at read ended trapped stays) = omega (arith, stays)
-
-  run_other : (last : List ℕ) (e : Ending) (n : ℕ) → RunEnds image costs most rows old.source new.source last e → number_of e ≡ n → (n ≢ 0) → (n ≢ 3) → (n ≢ 7) → (n ≢ 10) → ⊥
-  run_other _ _ n (run_done ticked whole stays) is a b c d = a (sym is)
-  run_other _ _ n (run_bad rule line ticked bad stays) is a b c d = c (sym is)
-  run_other _ _ n (run_fault ticked cut failed) is a b c d = b (sym is)
-  run_other _ _ n (run_trapped row kind at read ended trapped stays) is a b c d = d (sym is)
-
-  -- the rows that were read when the line behind those of these rows was due
-  record Pulled : Type 0 where
-    pub read : List (List ℤ)
-    pub has_read : HasRead (length image.inputs) old.source.left new.source.left read
-    pub one_more : length read ≤ length rows + 1
-    pub later : old.source.faults ≤ new.source.faults
-
-  no_more : HasRead (length image.inputs) old.source.left new.source.left rows → old.source.faults ≤ new.source.faults → Pulled
-  no_more h l = record { read = rows; has_read = h; one_more = omega arith; later = l }
-
-  more : (row : List ℤ) → HasRead (length image.inputs) old.source.left new.source.left (rows ++ row ∷ []) → old.source.faults ≤ new.source.faults → Pulled
-  more row h l = record { read = rows ++ row ∷ []; has_read = h; one_more = omega (arith, length-append rows (row ∷ [])); later = l }
-
-  pulled_last : (last : List ℕ) (e : Ending) → RunEnds image costs most rows old.source new.source last e → Pulled
-  pulled_last _ _ (run_done ticked whole stays) = no_more ticked.read (omega (arith, stays))
-  pulled_last _ _ (run_bad rule line ticked bad stays) = no_more ticked.read (omega (arith, stays))
-  pulled_last _ _ (run_fault ticked cut failed) = no_more ticked.read failed.later
-  pulled_last _ _ (run_trapped row kind at read ended trapped stays) = more row read (omega (arith, stays))
-
-  pulled : (line : List ℕ) → IsNext image costs most rows old.source new.source line → Pulled
-  pulled _ (next_tick row outputs cycles ticked tells stays) = more row ticked.read (omega (arith, stays))
-  pulled _ (next_last e line ended) = pulled_last line e ended
+use Rattle.pretc_top.specs.Comes.{go_ran, run_ran, exec_ran, mean_ran, go_broke, run_broke, exec_broke, mean_broke, Comes, ends, ran, broke}
+use Rattle.pretc_top.specs.Causes.{Causes}
+use Rattle.pretc_top.specs.Stands.{AfterReadFault, pull_failed, mean_pull_failed, exec_pull_failed, in_the_report, in_the_meaning, in_the_bound_line, behind_the_bound_line, AfterMemory, memory_at_a_tick, AfterBadTrace, go_bad_trace, mean_bad_trace, exec_bad_trace, AfterTrap, exec_trapped}
+use Rattle.pretc_top.proofs.Answered.{source_same, failed, by_ends}
+use Rattle.pretc_top.proofs.Runs.{run_rose, run_kept, run_later, run_other, pulled}
+use Rattle.pretc_top.proofs.Carried.{by_run, by_broken_run}
 
 module _ (program name : List ℕ) (old new : Outside) (image : Parts) (made : IsMade program name image old.shelf new.shelf) (rows : List (List ℤ)) where
   stopped_fault : (last : List ℕ) (e : Ending) → RunEnds image unit cycles_most rows old.source new.source last e → Wrote old.sink new.sink (go_lines image rows ++ last ∷ []) →
@@ -528,6 +307,8 @@ pub causes : (command : Option (Command (List ℕ))) (old new : Outside) (answer
 causes command old new answer (ends due e en s h) = by_ends old new command due e answer en s h
 causes _ old new answer (ran _ _ (go_ran program name due e g) h) = by_go program name old new due e answer g h
 causes _ old new answer (broke is (go_broke program name g)) = by_broken_go program name old new answer is g
+causes _ old new answer (ran _ _ (run_ran program costs image cert due e g) h) = by_run program costs image cert old new due e answer g h
+causes _ old new answer (broke is (run_broke program costs image cert g)) = by_broken_run program costs image cert old new answer is g
 causes _ old new answer (ran _ _ (mean_ran program due e g) h) = by_mean program old new due e answer g h
 causes _ old new answer (broke is (mean_broke program g)) = by_broken_mean program old new answer is g
 causes _ old new answer (ran _ _ (exec_ran image cert costs due e g) h) = by_exec image cert costs old new due e answer g h

@@ -10,11 +10,14 @@ use Rattle.pt_base.specs.declared.Rule.{Rule}
 use Rattle.pt_base.specs.declared.Span.{Span}
 use Rattle.pc_verdict.specs.Sources.{Breaks}
 use Rattle.pc_verdict.specs.Verdicts.{BreaksFirst}
+use Rattle.pc_generator.specs.Generated.{generated}
 use Rattle.pretc_run.specs.Writing.{Wrote}
 use Rattle.pretc_top.specs.declared.commands.Command.{Command}
-use Rattle.pretc_top.specs.declared.commands.Command.TheVariants.{Go, Check, Print, Rules, Mean, Exec}
+use Rattle.pretc_top.specs.declared.commands.Command.TheVariants.{Go, Run, Check, Print, Rules, Mean, Job, Exec}
 use Rattle.pretc_top.specs.Outside.{Outside, IsLater}
-use Rattle.pretc_top.specs.Loading.{source_most}
+use Rattle.pc_grammar.specs.Trees.{Program}
+use Rattle.pc_typed.specs.Typing.{Typing}
+use Rattle.pretc_top.specs.Loading.{source_most, IsTaken}
 use Rattle.pretc_top.specs.Check.{image_most, cert_most, costs_most, unit_word, IsImageText, IsCertText, CostsHeld, CostsRead, CostsFail}
 use Rattle.pretc_run.specs.declared.endings.Ending.{Ending}
 use Rattle.pretc_run.specs.Endings.{number_of}
@@ -31,13 +34,18 @@ pub record BreaksRule (B : List ℕ → Rule → Span → Type 0) (program : Lis
 -- the program of the command breaks a rule, and this is the first; `print` looks at size, tokens and grammar alone
 pub data IsRefusedBy (files : Option Files) : Option (Command (List ℕ)) → Type 0 where
   go_refused : (program image : List ℕ) → BreaksRule BreaksFirst program files → IsRefusedBy files (Some (Go program image))
+  run_refused : (program costs image cert : List ℕ) → BreaksRule BreaksFirst program files → IsRefusedBy files (Some (Run program costs image cert))
   print_refused : (program : List ℕ) → BreaksRule Breaks program files → IsRefusedBy files (Some (Print program))
   rules_refused : (program : List ℕ) → BreaksRule BreaksFirst program files → IsRefusedBy files (Some (Rules program))
   mean_refused : (program : List ℕ) → BreaksRule BreaksFirst program files → IsRefusedBy files (Some (Mean program))
+  job_refused : (n : ℕ) (rule : Rule) (span : Span) → BreaksFirst (generated n) rule span → IsRefusedBy files (Some (Job n))
 
 -- the file to be loaded next isn't among the files that the shelf tells of
 pub data LacksFile (files : Option Files) : Option (Command (List ℕ)) → Type 0 where
   go_lacks : (program image : List ℕ) → Lacks files program → LacksFile files (Some (Go program image))
+  run_lacks : (program costs image cert : List ℕ) → Lacks files program → LacksFile files (Some (Run program costs image cert))
+  run_lacks_costs : (program costs image cert text : List ℕ) → Holds files program source_most text → costs ≢ unit_word → Lacks files costs →
+      LacksFile files (Some (Run program costs image cert))
   check_lacks : (image cert costs : List ℕ) → Lacks files image → LacksFile files (Some (Check image cert costs))
   check_lacks_cert : (image cert costs text : List ℕ) → Holds files image image_most text → Lacks files cert →
       LacksFile files (Some (Check image cert costs))
@@ -69,12 +77,15 @@ pub record IsBound (image cert costs : List ℕ) (files : Option Files) : Type 0
   pub free_ticks : BoundsFreeTicks image_read costs_read cert_read.bound
   pub runs : BoundsRuns image_read costs_read cert_read.bound
 
--- the table of costs that `check` or `exec` names was loaded and is refused
+-- the table of costs that `check`, `exec` or `run` names was loaded and is refused; in `run` the program keeps every rule
 pub data CostsRefused (files : Option Files) : Option (Command (List ℕ)) → Type 0 where
   check_refuses_costs : (image cert costs text : List ℕ) (e : Ending) → costs ≢ unit_word → Holds files costs costs_most text →
       CostsFail (Some text) e → number_of e ≡ 6 → CostsRefused files (Some (Check image cert costs))
   exec_refuses_costs : (image cert costs text : List ℕ) (e : Ending) → costs ≢ unit_word → Holds files costs costs_most text →
       CostsFail (Some text) e → number_of e ≡ 6 → CostsRefused files (Some (Exec image cert costs))
+  run_refuses_costs : (program costs image cert : List ℕ) (tree : Program) (typing : Typing) → IsTaken program files tree typing →
+      (text : List ℕ) (e : Ending) → costs ≢ unit_word → Holds files costs costs_most text → CostsFail (Some text) e → number_of e ≡ 6 →
+      CostsRefused files (Some (Run program costs image cert))
 
 -- the words are a command; where it is a check, the bound of its certificate bounds its image
 abbrev pub BoundHolds : Option Files → Option (Command (List ℕ)) → Type 0

@@ -8,11 +8,13 @@ use Rattle.pretc_run.specs.declared.endings.Ending.TheVariants.{Usage}
 use Rattle.pretc_run.specs.Endings.{number_of, line_of, write_fault}
 use Rattle.pretc_run.specs.Writing.{IsAnswered, Answers}
 use Rattle.pretc_top.specs.declared.commands.Command.{Command}
-use Rattle.pretc_top.specs.declared.commands.Command.TheVariants.{Go, Check, Print, Rules, Mean, Gen, Exec}
+use Rattle.pretc_top.specs.declared.commands.Command.TheVariants.{Go, Run, Check, Print, Rules, Mean, Gen, Job, Exec}
 use Rattle.pretc_top.specs.Outside.{Outside}
 use Rattle.pretc_top.specs.Go.{IsUnready, GoRan, GoBroke}
+use Rattle.pretc_top.specs.Run.{RunUnready, RunRan, RunBroke}
 use Rattle.pretc_top.specs.Check.{CheckEnds}
 use Rattle.pretc_top.specs.Says.{SaysEnds, IsPrinted, IsRuled, GenEnds}
+use Rattle.pretc_top.specs.Job.{JobEnds}
 use Rattle.pretc_top.specs.Exec.{ExecUnready, ExecRan, ExecBroke}
 use Rattle.pretc_top.specs.Mean.{MeanRan, MeanBroke}
 use Rattle.pretc_top.specs.Loading.{ProgramFails}
@@ -29,6 +31,8 @@ pub data Ends (old new : Outside) : Option (Command (List ℕ)) → List (List �
   no_command : new.shelf ≡ old.shelf → Ends old new None (line_of Usage ∷ []) Usage
   go_ends : (program image : List ℕ) (e : Ending) → IsUnready program image old.shelf new.shelf e →
       Ends old new (Some (Go program image)) (line_of e ∷ []) e
+  run_ends : (program costs image cert : List ℕ) (e : Ending) → RunUnready program costs image cert old.shelf new.shelf e →
+      Ends old new (Some (Run program costs image cert)) (line_of e ∷ []) e
   check_ends : (image cert costs : List ℕ) (due : List (List ℕ)) (e : Ending) → CheckEnds image cert costs old.shelf new.shelf due e →
       Ends old new (Some (Check image cert costs)) due e
   print_ends : (program : List ℕ) (due : List (List ℕ)) (e : Ending) →
@@ -40,11 +44,14 @@ pub data Ends (old new : Outside) : Option (Command (List ℕ)) → List (List �
   exec_ends : (image cert costs : List ℕ) (e : Ending) → ExecUnready image cert costs old.shelf new.shelf e →
       Ends old new (Some (Exec image cert costs)) (line_of e ∷ []) e
   gen_ends : (n : ℕ) (due : List (List ℕ)) (e : Ending) → new.shelf ≡ old.shelf → GenEnds n due e → Ends old new (Some (Gen n)) due e
+  job_ends : (n : ℕ) (due : List (List ℕ)) (e : Ending) → new.shelf ≡ old.shelf → JobEnds n due e → Ends old new (Some (Job n)) due e
 
 -- how a command ends that has run on the trace, with the lines of its report
 pub data Ran (old new : Outside) : Option (Command (List ℕ)) → List (List ℕ) → Ending → Type 0 where
   go_ran : (program image : List ℕ) (due : List (List ℕ)) (e : Ending) → GoRan program image old new due e →
       Ran old new (Some (Go program image)) due e
+  run_ran : (program costs image cert : List ℕ) (due : List (List ℕ)) (e : Ending) → RunRan program costs image cert old new due e →
+      Ran old new (Some (Run program costs image cert)) due e
   exec_ran : (image cert costs : List ℕ) (due : List (List ℕ)) (e : Ending) → ExecRan image cert costs old new due e →
       Ran old new (Some (Exec image cert costs)) due e
   mean_ran : (program : List ℕ) (due : List (List ℕ)) (e : Ending) → MeanRan program old new due e → Ran old new (Some (Mean program)) due e
@@ -52,6 +59,7 @@ pub data Ran (old new : Outside) : Option (Command (List ℕ)) → List (List �
 -- the report of a command that runs on the trace broke off
 pub data Broke (old new : Outside) : Option (Command (List ℕ)) → Type 0 where
   go_broke : (program image : List ℕ) → GoBroke program image old new → Broke old new (Some (Go program image))
+  run_broke : (program costs image cert : List ℕ) → RunBroke program costs image cert old new → Broke old new (Some (Run program costs image cert))
   exec_broke : (image cert costs : List ℕ) → ExecBroke image cert costs old new → Broke old new (Some (Exec image cert costs))
   mean_broke : (program : List ℕ) → MeanBroke program old new → Broke old new (Some (Mean program))
 

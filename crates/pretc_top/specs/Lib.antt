@@ -1,13 +1,16 @@
 pub mod Causes
+pub mod Certified
 pub mod Check
 pub mod Comes
 pub mod Commands
 pub mod Exec
 pub mod Go
+pub mod Job
 pub mod Loading
 pub mod Mean
 pub mod Named
 pub mod Outside
 pub mod Refusing
+pub mod Run
 pub mod Says
 pub mod Stands

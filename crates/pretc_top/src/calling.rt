@@ -8,9 +8,11 @@ use crate::commands::{Command, command_of};
 use crate::executing::exec;
 use crate::generating::print_generated;
 use crate::going::go;
+use crate::jobbing::job;
 use crate::meaning::mean;
 use crate::printing::print_program;
 use crate::ruling::rules_of_program;
+use crate::running::carry_out;
 use pretc_run::{Ending, finish};
 use pt_base::Text;
 use pt_outside::{Shelf, Sink, Source};
@@ -31,6 +33,9 @@ fn called<H: Shelf, I: Source, O: Sink>(
     match command_of(words) {
         None => finish(Ending::Usage, out),
         Some(Command::Go(program, image)) => go(alloc, program, image, shelf, input, out),
+        Some(Command::Run(program, costs, image, cert)) => {
+            carry_out(alloc, program, costs, image, cert, shelf, input, out)
+        }
         Some(Command::Check(image, cert, costs)) => {
             check_files(alloc, image, cert, costs, shelf, out)
         }
@@ -41,6 +46,7 @@ fn called<H: Shelf, I: Source, O: Sink>(
         Some(Command::Rules(program)) => rules_of_program(alloc, program, shelf, out),
         Some(Command::Mean(program)) => mean(alloc, program, shelf, input, out),
         Some(Command::Gen(threads)) => print_generated(alloc, threads, out),
+        Some(Command::Job(threads)) => job(alloc, threads, out),
     }
 }
 

@@ -133,8 +133,12 @@ fn is_unit(costs: &Text) -> bool
     costs.bytes() == b"-".as_slice()
 }
 
-// The bytes of the table of costs, where the word names one.
-fn load_costs<H: Shelf>(alloc: Global, costs: &Text, shelf: &mut H) -> Result<Option<Text>, Ending>
+/// The bytes of the table of costs, where the word names one.
+pub fn load_costs<H: Shelf>(
+    alloc: Global,
+    costs: &Text,
+    shelf: &mut H,
+) -> Result<Option<Text>, Ending>
     ensures held { IfOk result (λ t. CostsHeld (H.told shelf.old).files costs.now t) }
     ensures kept { OnOk result (IsAsBefore (H.told shelf.old) (H.told shelf.new)) }
     ensures failed { IfErr result (λ e. CostsNotLoaded costs.now (H.told shelf.old) (H.told shelf.new) e) }

@@ -11,6 +11,8 @@ use pt_base::Text;
 pub enum Command<N> {
     /// `go PROGRAM IMAGE`
     Go(N, N),
+    /// `run PROGRAM COSTS IMAGE CERT`
+    Run(N, N, N, N),
     /// `check IMAGE CERT COSTS`
     Check(N, N, N),
     /// `print PROGRAM`
@@ -23,6 +25,8 @@ pub enum Command<N> {
     Mean(N),
     /// `gen N`
     Gen(u32),
+    /// `job N`
+    Job(u32),
 }
 
 // The most threads of a generated program.
@@ -72,6 +76,16 @@ fn generating(word: &Text) -> Option<Command<&Text>>
     }
 }
 
+// The job's command, where the word is a number of threads.
+fn doing_job(word: &Text) -> Option<Command<&Text>>
+    ensures { option_map named result ≡ spec.doing_job word.now }
+{
+    match threads_of(word.bytes()) {
+        Some(n) => Some(Command::Job(n)),
+        None => None,
+    }
+}
+
 // The command of two words, if they are one.
 fn of_two<'a>(verb: &Text, word: &'a Text) -> Option<Command<&'a Text>>
     ensures { option_map named result ≡ spec.of_two verb.now word.now }
@@ -84,9 +98,20 @@ fn of_two<'a>(verb: &Text, word: &'a Text) -> Option<Command<&'a Text>>
         Some(Command::Mean(word))
     } else if verb.bytes() == b"gen".as_slice() {
         generating(word)
+    } else if verb.bytes() == b"job".as_slice() {
+        doing_job(word)
     } else {
         None
     }
+}
+
+// Whether no two of four words are equal.
+fn are_apart(program: &[u8], costs: &[u8], image: &[u8], cert: &[u8]) -> bool
+    ensures { result ≡ spec.are_apart program.now costs.now image.now cert.now }
+{
+    (program != costs && program != image && program != cert)
+        && (costs != image && costs != cert)
+        && image != cert
 }
 
 /// The command that the words are, if they are one.
@@ -107,6 +132,15 @@ pub fn command_of(words: &[Text]) -> Option<Command<&Text>>
                 Some(Command::Check(image, cert, costs))
             } else if verb.bytes() == b"exec".as_slice() {
                 Some(Command::Exec(image, cert, costs))
+            } else {
+                None
+            }
+        }
+        [verb, program, costs, image, cert] => {
+            if verb.bytes() == b"run".as_slice()
+                && are_apart(program.bytes(), costs.bytes(), image.bytes(), cert.bytes())
+            {
+                Some(Command::Run(program, costs, image, cert))
             } else {
                 None
             }

@@ -64,17 +64,22 @@ fn approve(alloc: Global, texts: &Texts) -> Result<Approved, Ending>
     }
 }
 
-// A loaded machine, a row for its inputs, places for its outputs, and the greatest charge of a tick.
+/// A loaded machine, a row for its inputs, places for its outputs, and the greatest charge of a tick.
 #[derive(Drop)]
-struct Bounded {
-    machine: Machine,
-    row: Vec<i32>,
-    outputs: Vec<i32>,
-    bound: u64,
+pub struct Bounded {
+    pub machine: Machine,
+    pub row: Vec<i32>,
+    pub outputs: Vec<i32>,
+    pub bound: u64,
 }
 
-// What running an image takes from memory.
-fn load_machine(alloc: Global, image: &Image, costs: &Costs, bound: u64) -> Result<Bounded, Memory>
+/// What running an image takes from memory.
+pub fn load_machine(
+    alloc: Global,
+    image: &Image,
+    costs: &Costs,
+    bound: u64,
+) -> Result<Bounded, Memory>
     ensures machine { IfOk result (λ b. b.machine ≡ fresh image.now costs.now) }
     ensures row { IfOk result (λ b. length b.row.items ≡ length image.now.inputs) }
     ensures outputs { IfOk result (λ b. length b.outputs.items ≡ length image.now.outputs) }
@@ -117,8 +122,8 @@ fn prepare<H: Shelf>(
     }
 }
 
-// The line of the bound, and the report of the machine.
-fn run<I: Source, O: Sink>(bounded: Bounded, input: &mut I, out: &mut O) -> u8
+/// The line of the bound, and the report of the machine.
+pub fn run<I: Source, O: Sink>(bounded: Bounded, input: &mut I, out: &mut O) -> u8
     requires fresh { bounded.machine ≡ fresh bounded.machine.image bounded.machine.costs }
     requires inputs { length bounded.row.items ≡ length bounded.machine.image.inputs }
     requires outputs { length bounded.outputs.items ≡ length bounded.machine.image.outputs }

@@ -6,14 +6,17 @@
 #![tactic(auto)]
 
 mod calling;
+mod certifying;
 mod checking;
 mod commands;
 mod executing;
 mod generating;
 mod going;
+mod jobbing;
 mod meaning;
 mod printing;
 mod ruling;
+mod running;
 mod saying;
 mod stages;
 

@@ -1,6 +1,7 @@
 ghost use Rattle.std.specs.Prelude.{◌≡◌, IfOk, IfErr, OnOk};
 ghost use Rattle.pt_outside.specs.Files.{Holds};
 ghost use Rattle.pt_image.specs.Text.{text_of};
+ghost use Rattle.tk_cert.specs.Text as cert_file;
 ghost use Rattle.pc_rules.specs.Sizes.{AreSizes};
 ghost use Rattle.pc_verdict.specs.Sources.{Breaks};
 ghost use Rattle.pc_verdict.specs.Verdicts.{BreaksFirst};
@@ -16,9 +17,10 @@ use pt_base::{Refusal, Text};
 use pt_image::Image;
 use pt_outside::{Shelf, ShelfFault, StoreFault};
 use std::alloc::Global;
+use tk_cert::Cert;
 
-// One byte more than a source may have.
-const SOURCE_MOST: u64 = 1048577;
+/// One byte more than a source may have.
+pub const SOURCE_MOST: u64 = 1048577;
 
 /// Loads the first bytes of a file, at most so many.
 pub fn load_text<H: Shelf>(
@@ -39,8 +41,8 @@ pub fn load_text<H: Shelf>(
     }
 }
 
-// The end of a program that is refused.
-fn ending_of(refusal: Refusal) -> Ending
+/// The end of a program that is refused.
+pub fn ending_of(refusal: Refusal) -> Ending
     ensures { result ≡ spec.ending_of refusal }
 {
     match refusal {
@@ -97,8 +99,25 @@ pub fn load_image<H: Shelf>(alloc: Global, program: &Text, shelf: &mut H) -> Res
         Err(ending) => return Err(ending),
     };
     match compile(alloc, &accepted.typed) {
-        Ok(image) => Ok(image),
+        Ok(compiled) => Ok(compiled.image),
         Err(_) => Err(Ending::WantOfMemory),
+    }
+}
+
+// Stores a text.
+fn store_text<H: Shelf>(
+    alloc: Global,
+    name: &Text,
+    text: &Text,
+    shelf: &mut H,
+) -> Result<(), Ending>
+    ensures stored { OnOk result (IsStored name.now text.now (H.told shelf.old) (H.told shelf.new)) }
+    ensures failed { IfErr result (λ e. StoreFails name.now text.now (H.told shelf.old) (H.told shelf.new) e) }
+{
+    match shelf.store(alloc, name, text) {
+        Ok(()) => Ok(()),
+        Err(StoreFault::Failed) => Err(Ending::StoreFault),
+        Err(StoreFault::Memory) => Err(Ending::WantOfMemory),
     }
 }
 
@@ -112,13 +131,24 @@ pub fn store_image<H: Shelf>(
     ensures stored { OnOk result (IsStored name.now (text_of image.now) (H.told shelf.old) (H.told shelf.new)) }
     ensures failed { IfErr result (λ e. StoreFails name.now (text_of image.now) (H.told shelf.old) (H.told shelf.new) e) }
 {
-    let text = match image.write(alloc) {
-        Ok(text) => text,
-        Err(_) => return Err(Ending::WantOfMemory),
-    };
-    match shelf.store(alloc, name, &text) {
-        Ok(()) => Ok(()),
-        Err(StoreFault::Failed) => Err(Ending::StoreFault),
-        Err(StoreFault::Memory) => Err(Ending::WantOfMemory),
+    match image.write(alloc) {
+        Ok(text) => store_text(alloc, name, &text, shelf),
+        Err(_) => Err(Ending::WantOfMemory),
+    }
+}
+
+/// Stores the text of a certificate.
+pub fn store_cert<H: Shelf>(
+    alloc: Global,
+    name: &Text,
+    cert: &Cert,
+    shelf: &mut H,
+) -> Result<(), Ending>
+    ensures stored { OnOk result (IsStored name.now (cert_file.text_of cert.now) (H.told shelf.old) (H.told shelf.new)) }
+    ensures failed { IfErr result (λ e. StoreFails name.now (cert_file.text_of cert.now) (H.told shelf.old) (H.told shelf.new) e) }
+{
+    match cert.write(alloc) {
+        Ok(text) => store_text(alloc, name, &text, shelf),
+        Err(_) => Err(Ending::WantOfMemory),
     }
 }

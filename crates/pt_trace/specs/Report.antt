@@ -26,6 +26,13 @@ worst_line ticks worst = codes "ticks " ++ decimal ticks ++ codes " worst " ++ d
 abbrev pub ticks_line : ℕ → List ℕ
 ticks_line ticks = codes "ticks " ++ decimal ticks ++ codes "\n"
 
+-- the number of threads, and the line after ticks of whose outputs the sum alone is told
+abbrev pub threads_line : ℕ → List ℕ
+threads_line threads = codes "threads " ++ decimal threads ++ codes "\n"
+
+abbrev pub sum_line : ℕ → ℤ → ℕ → List ℕ
+sum_line ticks sum worst = codes "ticks " ++ decimal ticks ++ codes " sum " ++ signed_decimal sum ++ codes " worst " ++ decimal worst ++ codes "\n"
+
 -- the lines of ticks from number k on: outputs with cycles, and outputs alone
 abbrev pub tick_lines : ℕ → List (List ℤ × ℕ) → List ℕ
 tick_lines k [] = []

@@ -22,5 +22,7 @@ pub use accepted::accepted_line;
 pub use laws::readings;
 pub use reader::{TraceFault, TraceReader};
 pub use refused::{cost_line, costs_line, refused_line, trace_line, trap_line};
-pub use report::{LineBuffer, bound_line, report_line, ticks_line, worst_line};
+pub use report::{
+    LineBuffer, bound_line, report_line, sum_line, threads_line, ticks_line, worst_line,
+};
 pub use verdict::{cert_line, image_line, no_line, yes_line};

@@ -173,3 +173,27 @@ pub fn ticks_line(ticks: u64, into: &mut LineBuffer)
     into.push_decimal(ticks);
     into.push_bytes(b"\n");
 }
+
+/// Leaves the line `threads T` in the buffer.
+pub fn threads_line(threads: u64, into: &mut LineBuffer)
+    ensures { into.new ≡ spec.threads_line threads }
+{
+    into.clear();
+    into.push_bytes(b"threads ");
+    into.push_decimal(threads);
+    into.push_bytes(b"\n");
+}
+
+/// Leaves the line `ticks N sum S worst W` in the buffer.
+pub fn sum_line(ticks: u64, sum: i32, worst: u64, into: &mut LineBuffer)
+    ensures { into.new ≡ spec.sum_line ticks sum worst }
+{
+    into.clear();
+    into.push_bytes(b"ticks ");
+    into.push_decimal(ticks);
+    into.push_bytes(b" sum ");
+    into.push_signed(sum);
+    into.push_bytes(b" worst ");
+    into.push_decimal(worst);
+    into.push_bytes(b"\n");
+}

@@ -3,9 +3,7 @@
 use mb_isa::unit_costs;
 use pt_base::Text;
 use pt_image::Image;
-use std::alloc::Global;
-use std::string::String;
-use std::vec::Vec;
+use std::alloc::{AllocError, Global};
 use tk_cert::Cert;
 use tk_judge::{Refusal, judge};
 
@@ -17,99 +15,110 @@ pub struct Change<'a> {
     pub text: &'a str,
 }
 
-// Pushes a section: its name, how many lines it has, and its lines, which commas part.
-fn push_section(
-    alloc: Global,
-    bytes: &mut Vec<u8>,
+// Writes the lines of a section, which commas part.
+fn put_lines(out: &mut String, name: &str, lines: &str, change: &Change) -> Result<(), AllocError> {
+    for (number, line) in lines.split(',').enumerate() {
+        if change.section == name && change.number == number {
+            write!(out, "{}\n", change.text)?;
+        } else {
+            write!(out, "{line}\n")?;
+        }
+    }
+    Ok(())
+}
+
+// Writes a section: its name, how many lines it has, and its lines.
+fn put_section(
+    out: &mut String,
     name: &str,
     lines: &str,
     change: &Change,
-) -> Option<()> {
-    let count = if lines.is_empty() {
-        0
-    } else {
-        lines.split(',').count()
-    };
-    let head = format!(in alloc; "{name} {count}\n").ok()?;
-    bytes.extend_from_slice(head.as_bytes()).ok()?;
-    if count == 0 {
-        return Some(());
+) -> Result<(), AllocError> {
+    if lines.is_empty() {
+        return write!(out, "{name} 0\n");
     }
-    for (number, line) in lines.split(',').enumerate() {
-        let line = if change.section == name && change.number == number {
-            change.text
-        } else {
-            line
-        };
-        bytes.extend_from_slice(line.as_bytes()).ok()?;
-        bytes.push(b'\n').ok()?;
-    }
-    Some(())
+    write!(out, "{name} {}\n", lines.split(',').count())?;
+    put_lines(out, name, lines, change)
 }
 
-// The image of the first seven fields of a row.
-fn image_of(alloc: Global, row: &str) -> Option<Image> {
+// Writes the image of the first seven fields of a row.
+fn put_image(out: &mut String, row: &str) -> Option<()> {
     let none = Change {
         section: "",
         number: 0,
         text: "",
     };
     let mut fields = row.split('|');
-    let mut bytes = Vec::new(alloc);
-    bytes.extend_from_slice(b"ARPRET 1\n").ok()?;
-    push_section(alloc, &mut bytes, "code", fields.next()?, &none)?;
-    push_section(alloc, &mut bytes, "memory", "0,0", &none)?;
+    out.push_str("ARPRET 1\n").ok()?;
+    put_section(out, "code", fields.next()?, &none).ok()?;
+    put_section(out, "memory", "0,0", &none).ok()?;
     for name in ["inputs", "outputs", "slots", "aborts", "pauses", "forks"].as_slice() {
-        push_section(alloc, &mut bytes, *name, fields.next()?, &none)?;
+        put_section(out, *name, fields.next()?, &none).ok()?;
     }
-    let text = Text::of(alloc, bytes.as_slice()).ok()?;
+    Some(())
+}
+
+fn image_of(alloc: Global, row: &str) -> Option<Image> {
+    let mut out = String::new(alloc);
+    put_image(&mut out, row)?;
+    let text = Text::of(alloc, out.as_bytes()).ok()?;
     Image::read(alloc, &text).ok()
 }
 
-// The certificate of the other fields, with a change.
-fn cert_of(alloc: Global, row: &str, change: &Change) -> Option<Cert> {
+// Writes the certificate of the other fields, with a change.
+fn put_cert(out: &mut String, row: &str, change: &Change) -> Option<()> {
     let mut fields = row.split('|').skip(7);
-    let mut bytes = Vec::new(alloc);
-    bytes.extend_from_slice(b"PRETCERT 1\n").ok()?;
     let bound = fields.next()?;
     let bound = if change.section == "bound" {
         change.text
     } else {
         bound
     };
-    let head = format!(in alloc; "bound {bound}\n").ok()?;
-    bytes.extend_from_slice(head.as_bytes()).ok()?;
+    write!(out, "PRETCERT 1\nbound {bound}\n").ok()?;
     for name in ["at", "loops", "slots"].as_slice() {
-        push_section(alloc, &mut bytes, *name, fields.next()?, change)?;
+        put_section(out, *name, fields.next()?, change).ok()?;
     }
-    bytes.extend_from_slice(b"walk 1\ns\nchoices 0\n\n").ok()?;
-    let text = Text::of(alloc, bytes.as_slice()).ok()?;
+    out.push_str("walk 1\ns\nchoices 0\n\n").ok()
+}
+
+fn cert_of(alloc: Global, row: &str, change: &Change) -> Option<Cert> {
+    let mut out = String::new(alloc);
+    put_cert(&mut out, row, change)?;
+    let text = Text::of(alloc, out.as_bytes()).ok()?;
     Cert::read(alloc, &text).ok()
 }
 
-// What the judge says.
-fn said(alloc: Global, refusal: Option<Refusal>) -> Option<String> {
-    match refusal {
-        None => "accepted".to_string(alloc).ok(),
-        Some(r) => {
-            let place = format!(in alloc;
-                "no A{} at {} level {}",
-                r.condition, r.at, r.level
-            ).ok()?;
-            match r.given {
-                None => format!(in alloc; "{place} needed {} given -", r.needed).ok(),
-                Some(given) => format!(in alloc; "{place} needed {} given {given}", r.needed).ok(),
-            }
-        }
+fn put_refusal(out: &mut String, r: &Refusal) -> Result<(), AllocError> {
+    write!(
+        out,
+        "no A{} at {} level {} needed {} given ",
+        r.condition, r.at, r.level, r.needed
+    )?;
+    match r.given {
+        None => out.push_str("-"),
+        Some(given) => write!(out, "{given}"),
     }
+}
+
+// What the judge says.
+fn put_answer(out: &mut String, image: &Image, cert: &Cert) -> Result<(), AllocError> {
+    match judge(image, cert, &unit_costs()) {
+        None => out.push_str("accepted"),
+        Some(refusal) => put_refusal(out, &refusal),
+    }
+}
+
+fn answer_of(alloc: Global, image: &Image, cert: &Cert) -> Option<String> {
+    let mut out = String::new(alloc);
+    put_answer(&mut out, image, cert).ok()?;
+    Some(out)
 }
 
 // Whether the judge answers so on a row, with a change.
 fn answers(alloc: Global, row: &str, change: &Change, wanted: &str) -> Option<bool> {
     let image = image_of(alloc, row)?;
     let cert = cert_of(alloc, row, change)?;
-    let answer = said(alloc, judge(&image, &cert, &unit_costs()))?;
-    Some(answer.as_bytes() == wanted.as_bytes())
+    Some(answer_of(alloc, &image, &cert)?.as_str() == wanted)
 }
 
 /// The label of the first row `LABEL: ROW => ANSWER` that isn't so, or an empty text.

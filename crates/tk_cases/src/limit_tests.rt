@@ -3,42 +3,46 @@ use crate::limit_rows::LIMITS;
 use mb_isa::unit_costs;
 use pt_base::Text;
 use pt_image::Image;
-use std::alloc::Global;
+use std::alloc::{AllocError, Global};
 use std::test::Fail;
-use std::vec::Vec;
 use tk_cert::Cert;
 use tk_judge::{Refusal, judge};
 
-// An image of so many sums and an end.
-fn long_image(alloc: Global, sums: u32) -> Option<Image> {
-    let mut bytes = Vec::new(alloc);
-    let head = format!(in alloc; "ARPRET 1\ncode {}\n", u64::from(sums) + 1).ok()?;
-    bytes.extend_from_slice(head.as_bytes()).ok()?;
+// Writes an image of so many sums and an end.
+fn put_long_image(out: &mut String, sums: u32) -> Result<(), AllocError> {
+    write!(out, "ARPRET 1\ncode {}\n", u64::from(sums) + 1)?;
     for _ in 0..sums {
-        bytes.extend_from_slice(b"30630001\n").ok()?;
+        out.push_str("30630001\n")?;
     }
-    let tail =
-        b"fc400000\nmemory 0\ninputs 0\noutputs 0\nslots 1\n0\naborts 0\npauses 0\nforks 0\n";
-    bytes.extend_from_slice(tail).ok()?;
-    let text = Text::of(alloc, bytes.as_slice()).ok()?;
+    out.push_str(
+        "fc400000\nmemory 0\ninputs 0\noutputs 0\nslots 1\n0\naborts 0\npauses 0\nforks 0\n",
+    )
+}
+
+fn long_image(alloc: Global, sums: u32) -> Option<Image> {
+    let mut out = String::new(alloc);
+    put_long_image(&mut out, sums).ok()?;
+    let text = Text::of(alloc, out.as_bytes()).ok()?;
     Image::read(alloc, &text).ok()
 }
 
-// Its certificate, with this number at the end.
-fn long_cert(alloc: Global, sums: u32, last: u32) -> Option<Cert> {
-    let mut bytes = Vec::new(alloc);
+// Writes its certificate, with this number at the end.
+fn put_long_cert(out: &mut String, sums: u32, last: u32) -> Result<(), AllocError> {
     let most = u64::from(sums) + 1;
-    let head = format!(in alloc; "PRETCERT 1\nbound {}\nat {most}\n", most + 1).ok()?;
-    bytes.extend_from_slice(head.as_bytes()).ok()?;
+    write!(out, "PRETCERT 1\nbound {}\nat {most}\n", most + 1)?;
     for place in 0..sums {
-        let line = format!(in alloc; "T 0 0 0 - {}\n", most - u64::from(place)).ok()?;
-        bytes.extend_from_slice(line.as_bytes()).ok()?;
+        write!(out, "T 0 0 0 - {}\n", most - u64::from(place))?;
     }
-    let tail = format!(in alloc;
+    write!(
+        out,
         "T 0 0 0 - {last}\nloops 0\nslots 1\n- -\nwalk 1\ns\nchoices 0\n\n"
-    ).ok()?;
-    bytes.extend_from_slice(tail.as_bytes()).ok()?;
-    let text = Text::of(alloc, bytes.as_slice()).ok()?;
+    )
+}
+
+fn long_cert(alloc: Global, sums: u32, last: u32) -> Option<Cert> {
+    let mut out = String::new(alloc);
+    put_long_cert(&mut out, sums, last).ok()?;
+    let text = Text::of(alloc, out.as_bytes()).ok()?;
     Cert::read(alloc, &text).ok()
 }
 

@@ -103,22 +103,29 @@ fn state_of(word: &str) -> State {
     }
 }
 
-// The walk of these states and choices.
-fn walk_of(alloc: Global, states: &str, choices: &str) -> Result<Walk, Memory> {
+fn states_of(alloc: Global, states: &str) -> Result<Many<State>, Memory> {
     let mut said = Vec::new(alloc);
     for word in states.split_whitespace() {
         said.push(state_of(word))?;
     }
+    Ok(Many::of(said))
+}
+
+fn choices_of(alloc: Global, choices: &str) -> Result<Many<bool>, Memory> {
     let mut chosen = Vec::new(alloc);
     for choice in choices.chars() {
         if choice == '0' || choice == '1' {
             chosen.push(choice == '1')?;
         }
     }
-    Ok(Walk {
-        states: Many::of(said),
-        choices: Many::of(chosen),
-    })
+    Ok(Many::of(chosen))
+}
+
+// The walk of these states and choices.
+fn walk_of(alloc: Global, states: &str, choices: &str) -> Result<Walk, Memory> {
+    let states = states_of(alloc, states)?;
+    let choices = choices_of(alloc, choices)?;
+    Ok(Walk { states, choices })
 }
 
 // Whether a row tells the cost.
@@ -129,28 +136,45 @@ fn is_told(told: &str, cost: Option<u64>) -> bool {
     }
 }
 
-// Whether a row is so. Where the limit is no number there is none.
-fn is_so(alloc: Global, image: &Image, costs: &Costs, row: &str) -> Option<bool> {
-    let mut fields = row.split(',');
-    let walk = walk_of(alloc, fields.next()?, fields.next()?).ok()?;
-    let most = fields.next()?.parse::<u64>().ok();
-    let cost = match most {
-        None => walk_cost(image, costs, &walk),
-        Some(most) => cost_within(image, costs, &walk, most),
+// Whether a walk costs so. Where the limit is no number there is none.
+fn costs_so(image: &Image, costs: &Costs, walk: &Walk, most: &str, told: &str) -> bool {
+    let cost = match most.parse::<u64>() {
+        Ok(most) => cost_within(image, costs, walk, most),
+        Err(_) => walk_cost(image, costs, walk),
     };
-    Some(is_told(fields.next()?, cost))
+    is_told(told, cost)
 }
 
-// The first row that isn't so over an image's text, or an empty text.
-fn first_wrong<'a>(alloc: Global, text: &str, costs: &Costs, rows: &'a str) -> Option<&'a str> {
+// Whether a row is so.
+fn is_so(alloc: Global, image: &Image, costs: &Costs, row: &str) -> Option<bool> {
+    let mut fields = row.split(',');
+    let (states, choices) = (fields.next()?, fields.next()?);
+    let (most, told) = (fields.next()?, fields.next()?);
+    let walk = walk_of(alloc, states, choices).ok()?;
+    Some(costs_so(image, costs, &walk, most, told))
+}
+
+fn image_of(alloc: Global, text: &str) -> Option<Image> {
     let text = Text::of(alloc, text.as_bytes()).ok()?;
-    let image = Image::read(alloc, &text).ok()?;
+    Image::read(alloc, &text).ok()
+}
+
+// Whether all rows are so over an image.
+fn all_so(alloc: Global, image: &Image, costs: &Costs, rows: &str) -> bool {
     for row in rows.lines() {
-        if !is_so(alloc, &image, costs, row)? {
-            return Some(row);
+        if is_so(alloc, image, costs, row) != Some(true) {
+            return false;
         }
     }
-    Some("")
+    true
+}
+
+// Whether all rows are so over an image's text.
+fn walks_so(alloc: Global, text: &str, costs: &Costs, rows: &str) -> bool {
+    match image_of(alloc, text) {
+        None => false,
+        Some(image) => all_so(alloc, &image, costs, rows),
+    }
 }
 
 #[test]
@@ -158,25 +182,25 @@ fn walks_of_one_slot(rt: HostRuntime) {
     let alloc = rt.alloc();
     let unit = unit_costs();
     assert!(rt;
-        first_wrong(
+        walks_so(
             alloc,
             COUNTER,
             &unit,
             "p3,,1000,8\ns,,1000,7\ne,,1000,3\ne,,3,3\ne,,2,none\nf,,1000,none\nw3,,1000,none\np2,,1000,none\ns f,,1000,none\n,,1000,none\ns,1,1000,none"
-        ) == Some("")
+        )
     );
     assert!(rt;
-        first_wrong(
+        walks_so(
             alloc,
             LOOP,
             &unit,
             "s,,1000,13\np4,,1000,14\ns,,13,13\ns,,12,none"
-        ) == Some("")
+        )
     );
-    assert!(rt; first_wrong(alloc, LOOP_PAUSES, &unit, "s,,1000,none\np1,,1000,2") == Some(""));
-    assert!(rt; first_wrong(alloc, ENDLESS, &unit, "s,,100000,none\ne,,1,1") == Some(""));
-    assert!(rt; first_wrong(alloc, CALLS, &unit, "s,,1000,none") == Some(""));
-    assert!(rt; first_wrong(alloc, LAST_WORD, &unit, "s,,1000,2\np0,,1000,none") == Some(""));
+    assert!(rt; walks_so(alloc, LOOP_PAUSES, &unit, "s,,1000,none\np1,,1000,2"));
+    assert!(rt; walks_so(alloc, ENDLESS, &unit, "s,,100000,none\ne,,1,1"));
+    assert!(rt; walks_so(alloc, CALLS, &unit, "s,,1000,none"));
+    assert!(rt; walks_so(alloc, LAST_WORD, &unit, "s,,1000,2\np0,,1000,none"));
 }
 
 #[test]
@@ -184,15 +208,15 @@ fn walks_by_choices(rt: HostRuntime) {
     let alloc = rt.alloc();
     let unit = unit_costs();
     assert!(rt;
-        first_wrong(
+        walks_so(
             alloc,
             BRANCH,
             &unit,
             "s,1,1000,3\ns,0,1000,4\ns,,1000,none\ns,10,1000,none"
-        ) == Some("")
+        )
     );
-    assert!(rt; first_wrong(alloc, BRANCH_OUT, &unit, "s,0,1000,3\ns,1,1000,none") == Some(""));
-    assert!(rt; first_wrong(alloc, UPPER, &unit, "s,,1000,4") == Some(""));
+    assert!(rt; walks_so(alloc, BRANCH_OUT, &unit, "s,0,1000,3\ns,1,1000,none"));
+    assert!(rt; walks_so(alloc, UPPER, &unit, "s,,1000,4"));
 }
 
 #[test]
@@ -200,32 +224,30 @@ fn walks_of_aborts(rt: HostRuntime) {
     let alloc = rt.alloc();
     let unit = unit_costs();
     assert!(rt;
-        first_wrong(
+        walks_so(
             alloc,
             WEAK,
             &unit,
             "p1,1,1000,9\np1,0,1000,6\np1,,1000,none\np1,11,1000,none\ns,,1000,4"
-        ) == Some("")
+        )
     );
     assert!(rt;
-        first_wrong(
+        walks_so(
             alloc,
             STRONG,
             &unit,
             "s f,,1000,6\nw1 e,1,1000,none\nw1 e,,1000,none\ne f,,1000,1"
-        ) == Some("")
+        )
     );
     assert!(rt;
-        first_wrong(
+        walks_so(
             alloc,
             STRONG_GROUP,
             &unit,
             "s f,,1000,4\nw1 p4,1,1000,3\nw1 p4,0,1000,5\nw1 p4,,1000,none\nw1 p4,10,1000,none\nw1 e,0,1000,none\np1 f,,1000,none"
-        ) == Some("")
+        )
     );
-    assert!(rt;
-        first_wrong(alloc, WEAK_GROUP, &unit, "w1 p4,1,1000,5\nw1 p4,0,1000,4") == Some("")
-    );
+    assert!(rt; walks_so(alloc, WEAK_GROUP, &unit, "w1 p4,1,1000,5\nw1 p4,0,1000,4"));
 }
 
 #[test]
@@ -233,31 +255,29 @@ fn walks_of_groups(rt: HostRuntime) {
     let alloc = rt.alloc();
     let unit = unit_costs();
     assert!(rt;
-        first_wrong(
+        walks_so(
             alloc,
             FORKED,
             &unit,
             "w0 p4 e,,1000,4\ns f f,,1000,4\np2 f f,,1000,2\nw0 e e,,1000,none\nw0 p4 f,,1000,none\nw0 p4 p4,,1000,none\nw0 p4 s,,1000,none\ne p4 f,,1000,none\np4 f f,,1000,none\np2 e e,,1000,none"
-        ) == Some("")
+        )
     );
+    assert!(rt; walks_so(alloc, TWICE, &unit, "w0 w2 p4,,1000,none\nw0 e p4,,1000,3"));
     assert!(rt;
-        first_wrong(alloc, TWICE, &unit, "w0 w2 p4,,1000,none\nw0 e p4,,1000,3") == Some("")
-    );
-    assert!(rt;
-        first_wrong(
+        walks_so(
             alloc,
             BACKWARDS,
             &unit,
             "w0 p4 w2,,1000,4\ns f f,,1000,none"
-        ) == Some("")
+        )
     );
-    assert!(rt; first_wrong(alloc, NO_FORK, &unit, "w0 p2,,1000,none\np0 f,,1000,2") == Some(""));
+    assert!(rt; walks_so(alloc, NO_FORK, &unit, "w0 p2,,1000,none\np0 f,,1000,2"));
 }
 
 #[test]
 fn walks_by_a_table_of_costs(rt: HostRuntime) {
     let alloc = rt.alloc();
     let costs = Costs::of(&COSTS);
-    assert!(rt; first_wrong(alloc, COUNTER, &costs, "p3,,-,14\ns,,-,13") == Some(""));
-    assert!(rt; first_wrong(alloc, BRANCH, &costs, "s,1,-,7\ns,0,-,6") == Some(""));
+    assert!(rt; walks_so(alloc, COUNTER, &costs, "p3,,-,14\ns,,-,13"));
+    assert!(rt; walks_so(alloc, BRANCH, &costs, "s,1,-,7\ns,0,-,6"));
 }

@@ -29,9 +29,12 @@ use Rattle.tk_bound.specs.Bounded.{IsAcceptedFor}
 use Rattle.tk_bound.proofs.Lists.{IsAmong, any-passes, all-left, all-right, all-map, three_parts}
 use Rattle.tk_bound.proofs.Accepts.{nothing}
 use Rattle.tk_bound.proofs.Carried.{same-list, lt-true}
-use Rattle.tk_paths.specs.Greatest.{best, paused, waited, beginnings, IsGreatestWith, IsStraightCondition, IsGreatest}
+use Rattle.tk_paths.specs.Reached.{IsOpen}
+use Rattle.tk_paths.specs.Regions.{Region}
+use Rattle.tk_paths.specs.Greatest.{best, paused, waited, beginnings, IsStraightCondition, IsGreatest}
 use Rattle.tk_paths.proofs.Covered.{all-append, all-flat-in, among-picked, Holding, covered as beginnings-covered}
 use Rattle.tk_paths.proofs.Lines.{own-thread}
+use Rattle.tk_paths.proofs.Steps.{IsStepWith, great-of}
 use Rattle.tk_paths.proofs.Places.{and-two, among-either, IsPlain, Unasked, IsGood}
 use Rattle.tk_paths.proofs.Rested.{rests-covered}
 
@@ -98,29 +101,29 @@ word-part image cert p (Routine g l v) spoken h = (and_parts (says_well image ce
 word-part image cert p (Cond v) spoken h = (and_parts (says_well image cert (Cond v)) (word_is_shaped image cert p (Cond v) (word_at image cert.lines p)) h).1
 
 -- What is known of a certificate: each place is good or says nothing, and the rest stands as acceptance wants it.
-pub record IsSound (image : Parts) (cert : CertParts) (costs : List ℕ) : Type 0 where
-  pub covered : (p : ℕ) → p < length image.code → IsGood image cert costs p ⊎ (line_at cert.lines p ≡ Bare)
+pub record IsSound (image : Parts) (cert : CertParts) (costs : List ℕ) (find : ℕ → Option Region) : Type 0 where
+  pub covered : (p : ℕ) → p < length image.code → IsGood image cert costs find p ⊎ (line_at cert.lines p ≡ Bare)
   pub size : length cert.lines ≡ length image.code
   pub slots_size : length cert.slot_bounds ≡ length image.slots
   pub start : is_thread 0 [] [] (line_at cert.lines (start_of image 0)) ≡ true
-  pub start_plain : IsPlain image cert costs (start_of image 0)
+  pub start_plain : IsPlain image cert costs find (start_of image 0)
   pub weights : RiseFrom 0 cert.weights
-  pub pause : (p : Point) → IsAmong p image.pauses → (instr_at image p.at ≡ Some instr.Eot) × IsGood image cert costs p.at
-  pub fork : (p : Point) → IsAmong p image.forks → (lo n : ℕ) × (instr_at image p.at ≡ Some (instr.Fork lo n)) × IsGood image cert costs p.at
+  pub pause : (p : Point) → IsAmong p image.pauses → (instr_at image p.at ≡ Some instr.Eot) × IsGood image cert costs find p.at
+  pub fork : (p : Point) → IsAmong p image.forks → (lo n : ℕ) × (instr_at image p.at ≡ Some (instr.Fork lo n)) × IsGood image cert costs find p.at
   pub apart : AllHold (apart image)
   pub slot : ((p : Point) → IsAmong p image.forks → (lo n : ℕ) → instr_at image p.at ≡ Some (instr.Fork lo n) → p.slot < lo) → (s : ℕ) (side : Side) →
       resumed image cert costs side s ≡ greater (best (paused image cert costs side) s image.pauses) (best (waited image cert costs side) s image.forks)
   pub bound : cert.bound ≡ base_of image costs + greatest_of (beginnings image cert costs)
 
-module _ (image : Parts) (cert : CertParts) (costs : List ℕ) (image_is : IsImage image) (sound : IsSound image cert costs) where
+module _ (image : Parts) (cert : CertParts) (costs : List ℕ) (find : ℕ → Option Region) (image_is : IsImage image) (sound : IsSound image cert costs find) where
   abbrev Plain : ℕ → Type 0
-  Plain = IsPlain image cert costs
+  Plain = IsPlain image cert costs find
 
   abbrev line_of : ℕ → Line
   line_of p = line_at cert.lines p
 
   abbrev GoodAt : ℕ → Type 0
-  GoodAt = IsGood image cert costs
+  GoodAt = IsGood image cert costs find
 
   -- a word that takes no upper half is read with none
   good-plain : (p : ℕ) (i : Instr) → GoodAt p → instr_at image p ≡ Some i → takes_upper i ≡ false → Plain p
@@ -164,7 +167,7 @@ module _ (image : Parts) (cert : CertParts) (costs : List ℕ) (image_is : IsIma
       ⊎_elim (λ g. g.asks goal r.2) (λ b. absurd (subst L b r.2)) (covered-at r.0 r.1))
       (among-either goal (A ++ B) (flat_map (asked_from image cert.lines) (code_places image)) h)
 
-  unasked : Unasked image cert costs
+  unasked : Unasked image cert costs find
   unasked p u h = by (is_asked image cert.lines p) refl
     where
       by : (b : Bool) → is_asked image cert.lines p ≡ b → b ≡ false
@@ -191,7 +194,7 @@ module _ (image : Parts) (cert : CertParts) (costs : List ℕ) (image_is : IsIma
       let stack : t.1 ≡ p.stack = sym q.4 ∙ ap (λ (z : Point). z.stack) same in
       subst (λ y. T p.slot y) stack (subst (λ x. T x t.1) slot t.2)
 
-  fork-kind : (p : Point) (h : IsAmong p image.forks) → (is_thread p.slot p.stack [] (line_of p.at) ≡ true) × (p.slot < (sound.fork p h).0)
+  pub fork-kind : (p : Point) (h : IsAmong p image.forks) → (is_thread p.slot p.stack [] (line_of p.at) ≡ true) × (p.slot < (sound.fork p h).0)
   fork-kind p h =
       let g = fork-good p h in
       let f = sound.fork p h in
@@ -256,9 +259,12 @@ module _ (image : Parts) (cert : CertParts) (costs : List ℕ) (image_is : IsIma
       let size = sound.size in
       ⊎_elim (λ h. ⊎_elim f g (sound.covered p h)) (λ h. g (get_or_past cert.lines p Bare (omega (arith, size, h)))) (cases_lt p (length image.code))
 
+  pub steps : (p s : ℕ) (a : List ℕ) → IsOpen image cert costs p s a → IsStepWith image cert costs find (instr_at image p) p s a
+  steps p s a o = by-cases (IsStepWith image cert costs find (instr_at image p) p s a) p (λ g. g.great s a o) (λ b. absurd (false≢true (sym (ap (is_thread s a []) b) ∙ o.0)))
+
   pub greatest : IsGreatest image cert costs
   greatest = record {
-    place = λ p s a o. by-cases (IsGreatestWith image cert costs (instr_at image p) p s a) p (λ g. g.great s a o) (λ b. absurd (false≢true (sym (ap (is_thread s a []) b) ∙ o.0)));
+    place = λ p s a o. great-of image cert costs find (instr_at image p) p s a (steps p s a o);
     condition = λ p c plain. by-cases (IsStraightCondition image cert costs p) p (λ g. g.straight c plain) (λ b. absurd (false≢true (sym (ap is_cond b) ∙ c)));
     slot = sound.slot
         (λ p k lo n e. let f = fork-kind p k in let l = f.1 in let x : (sound.fork p k).0 ≡ lo = same-first (sound.fork p k).0 (sound.fork p k).1 lo n (sym (sound.fork p k).2 ∙ e) in omega (arith, l, x));

@@ -43,7 +43,7 @@ use Rattle.tk_paths.proofs.Extracts.{way-of}
 use Rattle.tk_paths.proofs.TestWalks.{TWVal, joined-walk}
 use Rattle.tk_paths.proofs.Resumes.{loosened}
 
-samples-same : (o : Option (ℕ × ℕ)) (d : List Bool) → samples_from free o d ≡ d
+pub samples-same : (o : Option (ℕ × ℕ)) (d : List Bool) → samples_from free o d ≡ d
 samples-same None d = refl
 samples-same (Some t) d = refl
 
@@ -162,11 +162,11 @@ module _ (image : Parts) (cert : CertParts) (costs : List ℕ) (ok : Accepts ima
           absurd (omega (arith, room, high, h)))
           (below E D q 0 t r (omega (arith, e)))
 
-  abbrev unit_of : Tree → State
+  abbrev pub unit_of : Tree → State
   unit_of t = record { slots = length image.slots; tree = t; links = []; counters = [] }
 
   -- slots that stand right in a tree with the same slots make a configuration
-  configuration : (t u : Tree) → ((q : ℕ) → tally q 0 u ≡ tally q 0 t) → IsRight E D 0 u → IsConfigured image t → IsConfiguration image (unit_of t)
+  pub configuration : (t u : Tree) → ((q : ℕ) → tally q 0 u ≡ tally q 0 t) → IsRight E D 0 u → IsConfigured image t → IsConfiguration image (unit_of t)
   configuration t u same r h =
       let few : length image.slots ≤ 64 = ok.image_is.slots.1 in
       record {
@@ -181,7 +181,7 @@ module _ (image : Parts) (cert : CertParts) (costs : List ℕ) (ok : Accepts ima
         counters = refl;
       }
 
-  loose-configuration : (t : Tree) → IsLoose image 0 t → IsConfiguration image (unit_of t)
+  pub loose-configuration : (t : Tree) → IsLoose image 0 t → IsConfiguration image (unit_of t)
   loose-configuration t l =
       let b = begun-testing E D 0 t (loose-is image cert costs ok 0 t l) in
       let w = wakes-right E D acc 0 (tests_begun t) b.0 in

@@ -25,13 +25,15 @@ use Rattle.tk_bound.specs.Shape.{on_last, children_start, keeps_kind}
 use Rattle.tk_bound.specs.Acceptance.{on_side, level_of, number, begins, more, left_view, edge}
 use Rattle.tk_bound.proofs.Lists.{IsAmong}
 use Rattle.tk_bound.proofs.Carried.{le-test}
-use Rattle.tk_paths.specs.Regions.{behind, IsWord, extra}
-use Rattle.tk_paths.specs.Greatest.{stays, handlers, resting, IsGreatestWith}
+use Rattle.tk_paths.specs.Regions.{Region, behind, IsWord, extra}
+use Rattle.tk_paths.specs.Greatest.{stays, handlers, resting}
 use Rattle.tk_paths.specs.Codes.{Code, Passed, Sequence, Either, Turns, Forever, Resting, Forking, Guarded, entry, exit, EachCall, can_end, IsLasting, IsLaidIn}
 use Rattle.tk_paths.specs.Numbers.{Kind, thread, Numbers, level, nothing, Handler, stack_of, after, unit_lines, branched, jumping, jump_lines, testing, test_lines, region_lines, handled, rested, left, with_abort, grouped, entered, code_lines}
 use Rattle.tk_paths.specs.Numbers as numbers
 use Rattle.tk_paths.proofs.Covered.{Covers, holds-of}
 use Rattle.tk_paths.proofs.Lines.{Fits, IsFull, There, line-same, own-thread, at-left, at-right, append-size, map-size}
+use Rattle.tk_paths.proofs.Steps.{IsStepWith}
+use Rattle.tk_paths.proofs.Listing.{AreListed}
 use Rattle.tk_paths.proofs.Places.{and-two, lt-test, among-either, Every, every-one, every-join, IsPlain, plain-next, unit-plain, AreAborts, Known, place-good, numbered, edge-holds, itself, full-after, unit-first}
 use Rattle.tk_paths.proofs.UnitLaws.{more-more, there-more, size-join, unit-size, test-size, At, Good, On_line, moved, same-numbers, test-first, keeps, jump-law, test-law}
 use Rattle.tk_paths.proofs.Insides.{last-added, length-last, size-from, size-one, region-size}
@@ -117,20 +119,20 @@ module _ (image : Parts) (costs : List ℕ) (starts : Side → ℕ → Option �
       size-join p (exit body) (exit body + 1) (numbers.line (kind a) M ∷ u) (numbers.line (kind A) L ∷ [])
       (size-one p (numbers.line (kind a) M) (exit body) u (size-from (p + 1) (entry body) (exit body) u l.3 size)) (omega arith)
 
-module _ (image : Parts) (cert : CertParts) (costs : List ℕ) where
-  pub code-plain : (s : ℕ) (stack : List ℕ) (code : Code) → IsLaidIn image s stack code → IsPlain image cert costs (entry code) → IsPlain image cert costs (exit code)
-  code-plain s a (Passed r) l c = region-plain image cert costs r l.0 c
-  code-plain s a (Sequence x y) l c = let P : ℕ → Type 0 = IsPlain image cert costs in code-plain s a y l.1 (subst P l.2 (code-plain s a x l.0 c))
-  code-plain s a (Either p n at x y) l c = let P : ℕ → Type 0 = IsPlain image cert costs in code-plain s a y l.6 (subst P l.5 (unit-plain image cert costs (exit x) (Jump (Some (exit y))) l.4 refl))
-  code-plain s a (Turns p n at body q) l c = let P : ℕ → Type 0 = IsPlain image cert costs in subst P l.5 (unit-plain image cert costs (exit body) (Jump (Some p)) l.4 refl)
-  code-plain s a (Forever body q) l c = let P : ℕ → Type 0 = IsPlain image cert costs in subst P l.2 (unit-plain image cert costs (exit body) (Jump (Some (entry body))) l.1 refl)
-  code-plain s a (Resting p) l c = plain-next image cert costs p None Eot l.0 refl
-  code-plain s a (Forking p lo n) l c = plain-next image cert costs p None (Fork lo n) l.0 refl
-  code-plain s a (Guarded p j body) l c = plain-next image cert costs (exit body) None Leave l.5 refl
+module _ (image : Parts) (cert : CertParts) (costs : List ℕ) (find : ℕ → Option Region) where
+  pub code-plain : (s : ℕ) (stack : List ℕ) (code : Code) → IsLaidIn image s stack code → IsPlain image cert costs find (entry code) → IsPlain image cert costs find (exit code)
+  code-plain s a (Passed r) l c = region-plain image cert costs find r l.0 c
+  code-plain s a (Sequence x y) l c = let P : ℕ → Type 0 = IsPlain image cert costs find in code-plain s a y l.1 (subst P l.2 (code-plain s a x l.0 c))
+  code-plain s a (Either p n at x y) l c = let P : ℕ → Type 0 = IsPlain image cert costs find in code-plain s a y l.6 (subst P l.5 (unit-plain image cert costs find (exit x) (Jump (Some (exit y))) l.4 refl))
+  code-plain s a (Turns p n at body q) l c = let P : ℕ → Type 0 = IsPlain image cert costs find in subst P l.5 (unit-plain image cert costs find (exit body) (Jump (Some p)) l.4 refl)
+  code-plain s a (Forever body q) l c = let P : ℕ → Type 0 = IsPlain image cert costs find in subst P l.2 (unit-plain image cert costs find (exit body) (Jump (Some (entry body))) l.1 refl)
+  code-plain s a (Resting p) l c = plain-next image cert costs find p None Eot l.0 refl
+  code-plain s a (Forking p lo n) l c = plain-next image cert costs find p None (Fork lo n) l.0 refl
+  code-plain s a (Guarded p j body) l c = plain-next image cert costs find (exit body) None Leave l.5 refl
 
   -- the weights of its loops are in the certificate
   abbrev pub AreWeighedIn : Code → Type 0
-  AreWeighedIn (Passed r) = AreWeighed image cert costs r
+  AreWeighedIn (Passed r) = AreWeighed image cert costs find r
   AreWeighedIn (Sequence x y) = AreWeighedIn x × AreWeighedIn y
   AreWeighedIn (Either p n at x y) = AreWeighedIn x × AreWeighedIn y
   AreWeighedIn (Turns p n at body q) = AreWeighedIn body
@@ -139,15 +141,26 @@ module _ (image : Parts) (cert : CertParts) (costs : List ℕ) where
   AreWeighedIn (Forking p lo n) = Unit {0}
   AreWeighedIn (Guarded p j body) = AreWeighedIn body
 
+  -- its bounded loops and its calls are found at their places
+  abbrev pub AreListedIn : Code → Type 0
+  AreListedIn (Passed r) = AreListed image cert costs find r
+  AreListedIn (Sequence x y) = AreListedIn x × AreListedIn y
+  AreListedIn (Either p n at x y) = AreListedIn x × AreListedIn y
+  AreListedIn (Turns p n at body q) = AreListedIn body
+  AreListedIn (Forever body q) = AreListedIn body
+  AreListedIn (Resting p) = Unit {0}
+  AreListedIn (Forking p lo n) = Unit {0}
+  AreListedIn (Guarded p j body) = AreListedIn body
+
   -- the aborts round a code stand as acceptance wants it, and their handlers have these numbers; the first has number i
   abbrev pub AreHandled : ℕ → ℕ → List ℕ → List Handler → Type 0
   AreHandled s i outside [] = Unit {0}
   AreHandled s i outside (h ∷ aborts) =
-      (h.0 < length image.aborts) × (is_cond (line_at cert.lines ((abort_at image h.0).cond)) ≡ true) × IsPlain image cert costs ((abort_at image h.0).cond)
-      × (is_thread s outside [] (line_at cert.lines ((abort_at image h.0).handler)) ≡ true) × IsPlain image cert costs ((abort_at image h.0).handler)
+      (h.0 < length image.aborts) × (is_cond (line_at cert.lines ((abort_at image h.0).cond)) ≡ true) × IsPlain image cert costs find ((abort_at image h.0).cond)
+      × (is_thread s outside [] (line_at cert.lines ((abort_at image h.0).handler)) ≡ true) × IsPlain image cert costs find ((abort_at image h.0).handler)
       × ((side : Side) → number image cert costs (On side i) ((abort_at image h.0).handler) ≡ on_side side (Some (h.1))) × AreHandled s (i + 1) (outside ++ h.0 ∷ []) aborts
 
-  pub aborts-of : (s i : ℕ) (outside : List ℕ) (aborts : List Handler) → AreHandled s i outside aborts → AreAborts image cert costs s outside (stack_of aborts)
+  pub aborts-of : (s i : ℕ) (outside : List ℕ) (aborts : List Handler) → AreHandled s i outside aborts → AreAborts image cert costs find s outside (stack_of aborts)
   aborts-of s i outside [] h = tt
   aborts-of s i outside (x ∷ aborts) h = (h.0, h.1, h.2, h.3, h.4, aborts-of s (i + 1) (outside ++ x.0 ∷ []) aborts h.6)
 
@@ -188,20 +201,20 @@ module _ (image : Parts) (cert : CertParts) (costs : List ℕ) where
     pub record Around (s : ℕ) : Type 0 where
       pub inside : s < length image.slots
       pub begins_is : (side : Side) (c : ℕ) → s < c → c < length image.slots → begins image cert costs side c ≡ starts side c
-      pub child : (c : ℕ) → s < c → c < length image.slots → (is_thread c [] [] (line_at cert.lines (start_of image c)) ≡ true) × IsPlain image cert costs (start_of image c)
+      pub child : (c : ℕ) → s < c → c < length image.slots → (is_thread c [] [] (line_at cert.lines (start_of image c)) ≡ true) × IsPlain image cert costs find (start_of image c)
       pub there : (c : ℕ) → s < c → c < length image.slots → (side : Side) × There (starts side c)
-      pub condition : (j : ℕ) → j < length image.aborts → (is_cond (line_at cert.lines ((abort_at image j).cond)) ≡ true) × IsPlain image cert costs ((abort_at image j).cond)
+      pub condition : (j : ℕ) → j < length image.aborts → (is_cond (line_at cert.lines ((abort_at image j).cond)) ≡ true) × IsPlain image cert costs find ((abort_at image j).cond)
 
     module _ (s : ℕ) where
       abbrev in_code : List Handler → Kind
       in_code aborts = thread s (stack_of aborts) []
 
       later : (aborts : List Handler) (c : ℕ) (V : Numbers) → IsFull (in_code aborts) V → IsFull (in_code aborts) (after c V)
-      later a c V full = full-after image cert costs (in_code a) c V full
+      later a c V full = full-after image cert costs find (in_code a) c V full
 
       -- the line of a body that can't end says what its loop takes of it
-      body-first : (aborts : List Handler) (body : Code) (V : Numbers) (p : ℕ) → can_end ends body ≡ false → On_line image cert costs (in_code aborts) p (entered image costs starts aborts body V) →
-          On_line image cert costs (in_code aborts) p (entered image costs starts aborts body nothing)
+      body-first : (aborts : List Handler) (body : Code) (V : Numbers) (p : ℕ) → can_end ends body ≡ false → On_line image cert costs find (in_code aborts) p (entered image costs starts aborts body V) →
+          On_line image cert costs find (in_code aborts) p (entered image costs starts aborts body nothing)
       body-first a body V p c h =
           h ∙ line-same (in_code a) (entered image costs starts a body V) (entered image costs starts a body nothing) (λ view fit. by view fit)
         where
@@ -209,21 +222,21 @@ module _ (image : Parts) (cert : CertParts) (costs : List ℕ) where
           by (On side k) fit = let e = stack-size a in entered-same image costs starts ends quiet body a V nothing c side k (omega (arith, fit, e))
           by Value fit = absurd fit
 
-      jump-end : (aborts : List Handler) (p : ℕ) (V : Numbers) → At image cert costs p (jump_lines image costs (in_code aborts) p V) → On_line image cert costs (in_code aborts) p (jumping image costs p V)
+      jump-end : (aborts : List Handler) (p : ℕ) (V : Numbers) → At image cert costs find p (jump_lines image costs (in_code aborts) p V) → On_line image cert costs find (in_code aborts) p (jumping image costs p V)
       jump-end a p V h =
-          same-numbers image cert costs (in_code a) p (after (extra image costs p) (after (cost_of costs class.Jump) V)) (jumping image costs p V) (λ view. more-more (extra image costs p) (cost_of costs class.Jump) (V view))
-          (unit-first image cert costs (in_code a) (after (cost_of costs class.Jump) V) p h)
+          same-numbers image cert costs find (in_code a) p (after (extra image costs p) (after (cost_of costs class.Jump) V)) (jumping image costs p V) (λ view. more-more (extra image costs p) (cost_of costs class.Jump) (V view))
+          (unit-first image cert costs find (in_code a) (after (cost_of costs class.Jump) V) p h)
 
       -- the line of a code's first place
-      pub code-first : (aborts : List Handler) (code : Code) (V : Numbers) → IsLaidIn image s (stack_of aborts) code → IsLasting ends code → At image cert costs (entry code) (code_lines image costs starts s aborts code V) →
-          On_line image cert costs (in_code aborts) (exit code) V → On_line image cert costs (in_code aborts) (entry code) (entered image costs starts aborts code V)
-      code-first a (Passed r) V l last h e = region-first image cert costs (in_code a) r V l.0 h e
+      pub code-first : (aborts : List Handler) (code : Code) (V : Numbers) → IsLaidIn image s (stack_of aborts) code → IsLasting ends code → At image cert costs find (entry code) (code_lines image costs starts s aborts code V) →
+          On_line image cert costs find (in_code aborts) (exit code) V → On_line image cert costs find (in_code aborts) (entry code) (entered image costs starts aborts code V)
+      code-first a (Passed r) V l last h e = region-first image cert costs find (in_code a) r V l.0 h e
       code-first a (Sequence x y) V l last h e =
           let W = entered image costs starts a y V in
           let u = code_lines image costs starts s a x W in
           let v = code_lines image costs starts s a y V in
           let second = code-first a y V l.1 last.1 (at-right cert u v (entry x) (entry y) (code-size image costs starts s a x W l.0 ∙ l.2) h) e in
-          code-first a x W l.0 last.0 (at-left cert u v (entry x) h) (moved image cert costs (in_code a) (entry y) (exit x) W (sym l.2) second)
+          code-first a x W l.0 last.0 (at-left cert u v (entry x) h) (moved image cert costs find (in_code a) (entry y) (exit x) W (sym l.2) second)
       code-first a (Either p n at x y) V l last h e =
           let J = jumping image costs (exit x) V in
           let B = branched image costs (entered image costs starts a x J) (entered image costs starts a y V) in
@@ -231,14 +244,14 @@ module _ (image : Parts) (cert : CertParts) (costs : List ℕ) where
           let u = code_lines image costs starts s a x J in
           let j = jump_lines image costs (in_code a) (exit x) V in
           let v = code_lines image costs starts s a y V in
-          test-first image cert costs (in_code a) p n at B l.0 (at-left cert t u p (at-left cert (t ++ u) j p (at-left cert (t ++ u ++ j) v p h)))
+          test-first image cert costs find (in_code a) p n at B l.0 (at-left cert t u p (at-left cert (t ++ u) j p (at-left cert (t ++ u ++ j) v p h)))
       code-first a (Turns p n at body q) V l last h e =
           let H = entered image costs starts a (Turns p n at body q) V in
           let B = branched image costs (entered image costs starts a body nothing) V in
           let t = test_lines image costs (in_code a) p n at B in
           let u = code_lines image costs starts s a body (jumping image costs (exit body) H) in
           let j = jump_lines image costs (in_code a) (exit body) H in
-          test-first image cert costs (in_code a) p n at B l.0 (at-left cert t u p (at-left cert (t ++ u) j p h))
+          test-first image cert costs find (in_code a) p n at B l.0 (at-left cert t u p (at-left cert (t ++ u) j p h))
       code-first a (Forever body q) V l last h e =
           let H = entered image costs starts a body nothing in
           let J = jumping image costs (exit body) H in
@@ -266,20 +279,20 @@ module _ (image : Parts) (cert : CertParts) (costs : List ℕ) where
 
         -- ---- pauses
 
-        known-in : (aborts : List Handler) → AreHandled s 0 [] aborts → Known image cert costs (in_code aborts)
+        known-in : (aborts : List Handler) → AreHandled s 0 [] aborts → Known image cert costs find (in_code aborts)
         known-in a h = (around.inside, aborts-of s 0 [] a h)
 
-        rest-good : (aborts : List Handler) (p : ℕ) (V : Numbers) → IsLaidIn image s (stack_of aborts) (Resting p) → AreHandled s 0 [] aborts → IsPlain image cert costs p → IsFull (in_code aborts) (entered image costs starts aborts (Resting p) V) →
-            On_line image cert costs (in_code aborts) p (entered image costs starts aborts (Resting p) V) → On_line image cert costs (in_code aborts) (p + 1) V → Good image cert costs p
+        rest-good : (aborts : List Handler) (p : ℕ) (V : Numbers) → IsLaidIn image s (stack_of aborts) (Resting p) → AreHandled s 0 [] aborts → IsPlain image cert costs find p → IsFull (in_code aborts) (entered image costs starts aborts (Resting p) V) →
+            On_line image cert costs find (in_code aborts) p (entered image costs starts aborts (Resting p) V) → On_line image cert costs find (in_code aborts) (p + 1) V → Good image cert costs find p
         rest-good a p V l handles plain full here next =
             let k = in_code a in
             let E = entered image costs starts a (Resting p) V in
             let c = cost_of costs class.Eot in
-            let G : Option Instr → Type 0 = λ o. IsGreatestWith image cert costs o p s (stack_of a) in
-            place-good image cert costs k E p Eot here (known-in a handles) full (ap (read image p) plain ∙ l.0)
-            (λ un. and-two (is_listed image.pauses p s (stack_of a)) (keeps_kind image cert (numbers.line k E) (p + 1)) l.1 (keeps image cert costs k E V (p + 1) next)) (λ view fit. tt) (λ g x. absurd x)
+            let G : Option Instr → Type 0 = λ o. IsStepWith image cert costs find o p s (stack_of a) in
+            place-good image cert costs find k E p Eot here (known-in a handles) full (ap (read image p) plain ∙ l.0)
+            (λ un. and-two (is_listed image.pauses p s (stack_of a)) (keeps_kind image cert (numbers.line k E) (p + 1)) l.1 (keeps image cert costs find k E V (p + 1) next)) (λ view fit. tt) (λ g x. absurd x)
             (λ x. subst G (sym (rest-is image p (instr_at image p) instr.Eot (ap rest_word l.0)))
-            (λ side i w. numbered image cert costs k E p (On side i) here w full ∙ ap (more c) (sym (resting-is s side a i handles))))
+            (λ side i w. numbered image cert costs find k E p (On side i) here w full ∙ ap (more c) (sym (resting-is s side a i handles))))
 
         -- ---- forks
 
@@ -304,8 +317,8 @@ module _ (image : Parts) (cert : CertParts) (costs : List ℕ) where
             and-two (is_thread c [] [] (line_at cert.lines (start_of image c))) (list_all (λ child. is_thread child [] [] (line_at cert.lines (start_of image child))) (range_with_len (c + 1) n)) (h c (omega arith) (omega arith))
             (kids-start n (c + 1) (λ x low high. h x (omega (arith, low)) (omega (arith, high))))
 
-        fork-good : (aborts : List Handler) (p lo n : ℕ) (V : Numbers) → IsLaidIn image s (stack_of aborts) (Forking p lo n) → AreHandled s 0 [] aborts → IsPlain image cert costs p → IsFull (in_code aborts) V → IsFull (in_code aborts) (entered image costs starts aborts (Forking p lo n) V) →
-            On_line image cert costs (in_code aborts) p (entered image costs starts aborts (Forking p lo n) V) → On_line image cert costs (in_code aborts) (p + 1) V → Good image cert costs p
+        fork-good : (aborts : List Handler) (p lo n : ℕ) (V : Numbers) → IsLaidIn image s (stack_of aborts) (Forking p lo n) → AreHandled s 0 [] aborts → IsPlain image cert costs find p → IsFull (in_code aborts) V → IsFull (in_code aborts) (entered image costs starts aborts (Forking p lo n) V) →
+            On_line image cert costs find (in_code aborts) p (entered image costs starts aborts (Forking p lo n) V) → On_line image cert costs find (in_code aborts) (p + 1) V → Good image cert costs find p
         fork-good a p lo n V l handles plain fullV full here next =
             let k = in_code a in
             let E = entered image costs starts a (Forking p lo n) V in
@@ -315,24 +328,24 @@ module _ (image : Parts) (cert : CertParts) (costs : List ℕ) where
             let high = l.4 in
             let listed = is_listed image.forks p s (stack_of a) in
             let kids = children_start image cert lo n in
-            let G : Option Instr → Type 0 = λ o. IsGreatestWith image cert costs o p s (stack_of a) in
-            let child : (x : ℕ) → lo ≤ x → x < lo + n → (is_thread x [] [] (line_at cert.lines (start_of image x)) ≡ true) × IsPlain image cert costs (start_of image x) =
+            let G : Option Instr → Type 0 = λ o. IsStepWith image cert costs find o p s (stack_of a) in
+            let child : (x : ℕ) → lo ≤ x → x < lo + n → (is_thread x [] [] (line_at cert.lines (start_of image x)) ≡ true) × IsPlain image cert costs find (start_of image x) =
             λ x b t. around.child x (omega (arith, low, b)) (omega (arith, high, t)) in
             let alike : (side : Side) (x : ℕ) → lo ≤ x → x < lo + n → begins image cert costs side x ≡ starts side x = λ side x b t. around.begins_is side x (omega (arith, low, b)) (omega (arith, high, t)) in
-            place-good image cert costs k E p (Fork lo n) here (known-in a handles) full (ap (read image p) plain ∙ l.0)
+            place-good image cert costs find k E p (Fork lo n) here (known-in a handles) full (ap (read image p) plain ∙ l.0)
             (λ un. and-two (listed && nat_lt s lo && nat_lt 0 n && nat_le (lo + n) (length image.slots) && kids) (keeps_kind image cert (numbers.line k E) (p + 1))
             (and-two (listed && nat_lt s lo && nat_lt 0 n && nat_le (lo + n) (length image.slots)) kids
             (and-two (listed && nat_lt s lo && nat_lt 0 n) (nat_le (lo + n) (length image.slots)) (and-two (listed && nat_lt s lo) (nat_lt 0 n) (and-two listed (nat_lt s lo) l.1 (lt-test s lo low)) (lt-test 0 n (omega (arith, some))))
             (le-test (lo + n) (length image.slots) high)) (kids-start n lo (λ x b t. (child x b t).0)))
-            (keeps image cert costs k E V (p + 1) next))
-            (λ view fit. tt) (λ g x. range-places (IsPlain image cert costs) n lo g high (λ y b t. (child y b t).1) x)
+            (keeps image cert costs find k E V (p + 1) next))
+            (λ view fit. tt) (λ g x. range-places (IsPlain image cert costs find) n lo g high (λ y b t. (child y b t).1) x)
             (λ x. subst G (sym (rest-is image p (instr_at image p) (instr.Fork lo n) (ap rest_word l.0)))
             (λ side i w.
-            let v = sym (numbered image cert costs k V (p + 1) (On side i) next w fullV) in
+            let v = sym (numbered image cert costs find k V (p + 1) (On side i) next w fullV) in
             let r = sym (resting-is s side a i handles) in
             let m = sym (paused-alike (begins image cert costs) starts n lo alike) in
             let z = sym (ends-alike (begins image cert costs) starts n lo alike) in
-            numbered image cert costs k E p (On side i) here w full
+            numbered image cert costs find k E p (On side i) here w full
             ∙ ap (λ o. more c (greater (plus o (rested image costs a (On side i))) (plus (all_ends starts lo n) (V (On side i))))) m
             ∙ ap (λ o. more c (greater (plus (most_paused (begins image cert costs) lo n) o) (plus (all_ends starts lo n) (V (On side i))))) r
             ∙ ap (λ o. more c (greater (plus (most_paused (begins image cert costs) lo n) (resting image cert costs (stack_of a) i side)) (plus o (V (On side i))))) z
@@ -344,9 +357,9 @@ module _ (image : Parts) (cert : CertParts) (costs : List ℕ) where
         inner-kind : (aborts : List Handler) (j : ℕ) (V : Numbers) → in_code (with_abort image costs aborts j V) ≡ thread s (stack_of aborts ++ j ∷ []) []
         inner-kind a j V = ap (λ l. thread s l []) (stack-with a (j, level V (length a)))
 
-        enter-good : (aborts : List Handler) (p j : ℕ) (body : Code) (V W : Numbers) → IsLaidIn image s (stack_of aborts) (Guarded p j body) → AreHandled s 0 [] aborts → IsPlain image cert costs p →
-            IsFull (in_code aborts) (after (cost_of costs class.Abrt) W) → IsFull (in_code (with_abort image costs aborts j V)) W → On_line image cert costs (in_code aborts) p (after (cost_of costs class.Abrt) W) →
-            On_line image cert costs (in_code (with_abort image costs aborts j V)) (p + 1) W → Good image cert costs p
+        enter-good : (aborts : List Handler) (p j : ℕ) (body : Code) (V W : Numbers) → IsLaidIn image s (stack_of aborts) (Guarded p j body) → AreHandled s 0 [] aborts → IsPlain image cert costs find p →
+            IsFull (in_code aborts) (after (cost_of costs class.Abrt) W) → IsFull (in_code (with_abort image costs aborts j V)) W → On_line image cert costs find (in_code aborts) p (after (cost_of costs class.Abrt) W) →
+            On_line image cert costs find (in_code (with_abort image costs aborts j V)) (p + 1) W → Good image cert costs find p
         enter-good a p j body V W l handles plain full fullW here next =
             let k = in_code a in
             let A = with_abort image costs a j V in
@@ -356,25 +369,25 @@ module _ (image : Parts) (cert : CertParts) (costs : List ℕ) where
             let size : length (stack_of A) ≡ length stack + 1 = ap (λ (x : List ℕ). length x) (stack-with a (j, level V (length a))) ∙ length-last stack j in
             let there : is_thread s (stack ++ j ∷ []) [] (line_at cert.lines (p + 1)) ≡ true =
             ap (is_thread s (stack ++ j ∷ []) []) (next ∙ ap (λ x. numbers.line x W) (inner-kind a j V)) ∙ own-thread s (stack ++ j ∷ []) [] (map (level W) (range_with_len 0 (length (stack ++ j ∷ []) + 1))) in
-            let G : Option Instr → Type 0 = λ o. IsGreatestWith image cert costs o p s stack in
+            let G : Option Instr → Type 0 = λ o. IsStepWith image cert costs find o p s stack in
             let inner : (side : Side) (i : ℕ) → i ≤ length stack → number image cert costs (On side i) (p + 1) ≡ W (On side i) =
-            λ side i w. numbered image cert costs (in_code A) W (p + 1) (On side i) next (omega (arith, w, size)) fullW in
-            place-good image cert costs k E p (Abrt j) here (known-in a handles) full (ap (read image p) plain ∙ l.0)
+            λ side i w. numbered image cert costs find (in_code A) W (p + 1) (On side i) next (omega (arith, w, size)) fullW in
+            place-good image cert costs find k E p (Abrt j) here (known-in a handles) full (ap (read image p) plain ∙ l.0)
             (λ un. and-two (nat_lt j (length image.aborts) && nat_lt (length stack) 8) (is_thread s (stack ++ j ∷ []) [] (line_at cert.lines (p + 1)))
             (and-two (nat_lt j (length image.aborts)) (nat_lt (length stack) 8) (lt-test j (length image.aborts) l.1) (lt-test (length stack) 8 l.2)) there)
             (λ view fit. edges view fit inner) (λ g x. absurd x)
             (λ x. subst G (sym (rest-is image p (instr_at image p) (instr.Abrt j) (ap rest_word l.0)))
-            (λ side i w. numbered image cert costs k E p (On side i) here w full ∙ ap (more c) (sym (inner side i w))))
+            (λ side i w. numbered image cert costs find k E p (On side i) here w full ∙ ap (more c) (sym (inner side i w))))
           where
             edges : (view : View) → Fits view (in_code a) → ((side : Side) (i : ℕ) → i ≤ length (stack_of a) → number image cert costs (On side i) (p + 1) ≡ W (On side i)) → AllHold (edge image cert costs p view (cost_of costs class.Abrt) (p + 1))
             edges (On side i) fit f =
-                edge-holds image cert costs p (On side i) (cost_of costs class.Abrt) (p + 1) (more (cost_of costs class.Abrt) (W (On side i))) (W (On side i))
-                (numbered image cert costs (in_code a) (after (cost_of costs class.Abrt) W) p (On side i) here fit full) (f side i fit) (itself image cert costs (more (cost_of costs class.Abrt) (W (On side i))))
+                edge-holds image cert costs find p (On side i) (cost_of costs class.Abrt) (p + 1) (more (cost_of costs class.Abrt) (W (On side i))) (W (On side i))
+                (numbered image cert costs find (in_code a) (after (cost_of costs class.Abrt) W) p (On side i) here fit full) (f side i fit) (itself image cert costs find (more (cost_of costs class.Abrt) (W (On side i))))
             edges Value fit f = absurd fit
 
-        leave-good : (aborts : List Handler) (p j : ℕ) (V : Numbers) → IsWord image p Leave → AreHandled s 0 [] (with_abort image costs aborts j V) → IsPlain image cert costs p → IsFull (in_code aborts) V →
-            IsFull (in_code (with_abort image costs aborts j V)) (left image costs aborts V) → On_line image cert costs (in_code (with_abort image costs aborts j V)) p (left image costs aborts V) →
-            On_line image cert costs (in_code aborts) (p + 1) V → Good image cert costs p
+        leave-good : (aborts : List Handler) (p j : ℕ) (V : Numbers) → IsWord image p Leave → AreHandled s 0 [] (with_abort image costs aborts j V) → IsPlain image cert costs find p → IsFull (in_code aborts) V →
+            IsFull (in_code (with_abort image costs aborts j V)) (left image costs aborts V) → On_line image cert costs find (in_code (with_abort image costs aborts j V)) p (left image costs aborts V) →
+            On_line image cert costs find (in_code aborts) (p + 1) V → Good image cert costs find p
         leave-good a p j V word handles plain fullV full here next =
             let A = with_abort image costs a j V in
             let k = in_code A in
@@ -385,17 +398,17 @@ module _ (image : Parts) (cert : CertParts) (costs : List ℕ) where
             let last : last_of (stack_of A) ≡ Some (stack, j) = ap last_of same ∙ last-added stack j in
             let size : length (stack_of A) ≡ length stack + 1 = ap (λ (x : List ℕ). length x) same ∙ length-last stack j in
             let short = stack-size a in
-            let G : Option Instr → Type 0 = λ o. IsGreatestWith image cert costs o p s (stack_of A) in
+            let G : Option Instr → Type 0 = λ o. IsStepWith image cert costs find o p s (stack_of A) in
             let outer : (side : Side) (i : ℕ) → number image cert costs (On side (min i (length (stack_of A) - 1))) (p + 1) ≡ V (On side (min i (length a))) =
             λ side i.
             let e : min i (length (stack_of A) - 1) ≡ min i (length a) = omega (arith, size, short) in
-            ap (λ n. number image cert costs (On side n) (p + 1)) e ∙ numbered image cert costs (in_code a) V (p + 1) (On side (min i (length a))) next (omega (arith, short)) fullV in
+            ap (λ n. number image cert costs (On side n) (p + 1)) e ∙ numbered image cert costs find (in_code a) V (p + 1) (On side (min i (length a))) next (omega (arith, short)) fullV in
             let W : Option (List ℕ × ℕ) → Type 0 = λ o. on_last o (λ outside x. is_thread s outside [] (line_at cert.lines (p + 1))) ≡ true in
-            place-good image cert costs k E p Leave here (known-in A handles) full (ap (read image p) plain ∙ word)
+            place-good image cert costs find k E p Leave here (known-in A handles) full (ap (read image p) plain ∙ word)
             (λ un. subst W (sym last) (ap (is_thread s stack []) next ∙ own-thread s stack [] (map (level V) (range_with_len 0 (length stack + 1)))))
             (λ view fit. edges view fit outer) (λ g x. absurd x)
             (λ x. subst G (sym (rest-is image p (instr_at image p) instr.Leave (ap rest_word word)))
-            (λ side i w. numbered image cert costs k E p (On side i) here w full ∙ ap (more c) (sym (outer side i))))
+            (λ side i w. numbered image cert costs find k E p (On side i) here w full ∙ ap (more c) (sym (outer side i))))
           where
             edges : (view : View) → Fits view (in_code (with_abort image costs a j V)) →
                 ((side : Side) (i : ℕ) → number image cert costs (On side (min i (length (stack_of (with_abort image costs a j V)) - 1))) (p + 1) ≡ V (On side (min i (length a)))) →
@@ -404,45 +417,45 @@ module _ (image : Parts) (cert : CertParts) (costs : List ℕ) where
                 let A = with_abort image costs a j V in
                 let c = cost_of costs class.Leave in
                 let C : Option ℕ → Option ℕ → Type 0 = λ x y. Covers x (more c y) in
-                let n = numbered image cert costs (in_code A) (left image costs a V) p (On side i) here fit full in
+                let n = numbered image cert costs find (in_code A) (left image costs a V) p (On side i) here fit full in
                 holds-of 3 p i (number image cert costs (On side i) p) (more c (number image cert costs (On side (min i (length (stack_of A) - 1))) (p + 1)))
                 (subst (λ x. C x (number image cert costs (On side (min i (length (stack_of A) - 1))) (p + 1))) (sym n)
-                (subst (λ y. C (more c (V (On side (min i (length a))))) y) (sym (f side i)) (itself image cert costs (more c (V (On side (min i (length a))))))))
+                (subst (λ y. C (more c (V (On side (min i (length a))))) y) (sym (f side i)) (itself image cert costs find (more c (V (On side (min i (length a))))))))
             edges Value fit f = absurd fit
 
         -- ---- the law
 
         abbrev pub CodeLaw : List Handler → Code → Type 0
-        CodeLaw aborts code = (V : Numbers) → IsLaidIn image s (stack_of aborts) code → EachCall (IsCalled image cert costs) code → AreWeighedIn code → IsLasting ends code → IsPlain image cert costs (entry code) → AreHandled s 0 [] aborts →
-            IsFull (in_code aborts) V → At image cert costs (entry code) (code_lines image costs starts s aborts code V) → On_line image cert costs (in_code aborts) (exit code) V → Every (entry code) (exit code) (Good image cert costs)
+        CodeLaw aborts code = (V : Numbers) → IsLaidIn image s (stack_of aborts) code → EachCall (IsCalled image cert costs find) code → AreWeighedIn code → AreListedIn code → IsLasting ends code → IsPlain image cert costs find (entry code) → AreHandled s 0 [] aborts →
+            IsFull (in_code aborts) V → At image cert costs find (entry code) (code_lines image costs starts s aborts code V) → On_line image cert costs find (in_code aborts) (exit code) V → Every (entry code) (exit code) (Good image cert costs find)
 
-        from-other : (p q m : ℕ) → q ≡ p → Every p m (Good image cert costs) → Every q m (Good image cert costs)
+        from-other : (p q m : ℕ) → q ≡ p → Every p m (Good image cert costs find) → Every q m (Good image cert costs find)
         from-other p q m e f x a b = f x (omega (arith, e, a)) b
 
-        to-other : (p m q : ℕ) → m ≡ q → Every p m (Good image cert costs) → Every p q (Good image cert costs)
+        to-other : (p m q : ℕ) → m ≡ q → Every p m (Good image cert costs find) → Every p q (Good image cert costs find)
         to-other p m q e f x a b = f x a (omega (arith, e, b))
 
         sequence-law : (a : List Handler) (x y : Code) → CodeLaw a x → CodeLaw a y → CodeLaw a (Sequence x y)
-        sequence-law a x y first second V l calls weighed last plain handles full h e =
+        sequence-law a x y first second V l calls weighed listed last plain handles full h e =
             let W = entered image costs starts a y V in
             let u = code_lines image costs starts s a x W in
             let v = code_lines image costs starts s a y V in
-            let P : ℕ → Type 0 = IsPlain image cert costs in
+            let P : ℕ → Type 0 = IsPlain image cert costs find in
             let rest = at-right cert u v (entry x) (entry y) (code-size image costs starts s a x W l.0 ∙ l.2) h in
             let there = code-first a y V l.1 last.1 rest e in
-            every-join (entry x) (exit x) (exit y) (Good image cert costs)
-            (first W l.0 calls.0 weighed.0 last.0 plain handles (full-in a y V l.1 last.1 full) (at-left cert u v (entry x) h) (moved image cert costs (in_code a) (entry y) (exit x) W (sym l.2) there))
-            (from-other (entry y) (exit x) (exit y) l.2 (second V l.1 calls.1 weighed.1 last.1 (subst P l.2 (code-plain s (stack_of a) x l.0 plain)) handles full rest e))
+            every-join (entry x) (exit x) (exit y) (Good image cert costs find)
+            (first W l.0 calls.0 weighed.0 listed.0 last.0 plain handles (full-in a y V l.1 last.1 full) (at-left cert u v (entry x) h) (moved image cert costs find (in_code a) (entry y) (exit x) W (sym l.2) there))
+            (from-other (entry y) (exit x) (exit y) l.2 (second V l.1 calls.1 weighed.1 listed.1 last.1 (subst P l.2 (code-plain s (stack_of a) x l.0 plain)) handles full rest e))
 
         either-law : (a : List Handler) (p n at : ℕ) (x y : Code) → CodeLaw a x → CodeLaw a y → CodeLaw a (Either p n at x y)
-        either-law a p n at x y first second V l calls weighed last plain handles full h e =
+        either-law a p n at x y first second V l calls weighed listed last plain handles full h e =
             let k = in_code a in
             let J = jumping image costs (exit x) V in
             let X = entered image costs starts a x J in
             let Y = entered image costs starts a y V in
             let B = branched image costs X Y in
-            let P : ℕ → Type 0 = IsPlain image cert costs in
-            let G = Good image cert costs in
+            let P : ℕ → Type 0 = IsPlain image cert costs find in
+            let G = Good image cert costs find in
             let t = test_lines image costs k p n at B in
             let u = code_lines image costs starts s a x J in
             let j = jump_lines image costs k (exit x) V in
@@ -456,9 +469,9 @@ module _ (image : Parts) (cert : CertParts) (costs : List ℕ) where
             let firsts = at-right cert t u p (entry x) (s1 ∙ l.2) h1 in
             let jumps = at-right cert (t ++ u) j p (exit x) s2 h2 in
             let seconds = at-right cert (t ++ u ++ j) v p (entry y) s3 h in
-            let x_plain : P (entry x) = subst P l.2 (unit-plain image cert costs at (Branch (Some (entry y))) l.1 refl) in
+            let x_plain : P (entry x) = subst P l.2 (unit-plain image cert costs find at (Branch (Some (entry y))) l.1 refl) in
             let back_plain : P (exit x) = code-plain s (stack_of a) x l.3 x_plain in
-            let y_plain : P (entry y) = subst P l.5 (unit-plain image cert costs (exit x) (Jump (Some (exit y))) l.4 refl) in
+            let y_plain : P (entry y) = subst P l.5 (unit-plain image cert costs find (exit x) (Jump (Some (exit y))) l.4 refl) in
             let end_plain : P (exit y) = code-plain s (stack_of a) y l.6 y_plain in
             let fullJ : IsFull k J = later a (extra image costs (exit x) + cost_of costs class.Jump) V full in
             let x_end = jump-end a (exit x) V jumps in
@@ -466,21 +479,21 @@ module _ (image : Parts) (cert : CertParts) (costs : List ℕ) where
             let y_here = code-first a y V l.6 last.1 seconds e in
             let known = known-in a handles in
             every-join p (behind image at) (exit y) G
-            (test-law image cert costs positive k p n at (entry y) X Y l.0 l.1 tt plain known tests (moved image cert costs k (entry x) (behind image at) X (sym l.2) x_here) (full-in a x J l.3 last.0 fullJ) y_here y_plain (full-in a y V l.6 last.1 full))
-            (every-join (behind image at) (exit x) (exit y) G (from-other (entry x) (behind image at) (exit x) l.2 (first J l.3 calls.0 weighed.0 last.0 x_plain handles fullJ firsts x_end))
+            (test-law image cert costs find positive k p n at (entry y) X Y l.0 l.1 tt plain known tests (moved image cert costs find k (entry x) (behind image at) X (sym l.2) x_here) (full-in a x J l.3 last.0 fullJ) y_here y_plain (full-in a y V l.6 last.1 full))
+            (every-join (behind image at) (exit x) (exit y) G (from-other (entry x) (behind image at) (exit x) l.2 (first J l.3 calls.0 weighed.0 listed.0 last.0 x_plain handles fullJ firsts x_end))
             (every-join (exit x) (entry y) (exit y) G
-            (to-other (exit x) (behind image (exit x)) (entry y) l.5 (jump-law image cert costs positive k (exit x) (exit y) V l.4 tt back_plain known full jumps e end_plain))
-            (second V l.6 calls.1 weighed.1 last.1 y_plain handles full seconds e)))
+            (to-other (exit x) (behind image (exit x)) (entry y) l.5 (jump-law image cert costs find positive k (exit x) (exit y) V l.4 tt back_plain known full jumps e end_plain))
+            (second V l.6 calls.1 weighed.1 listed.1 last.1 y_plain handles full seconds e)))
 
         turns-law : (a : List Handler) (p n at : ℕ) (body : Code) (q : ℕ) → CodeLaw a body → CodeLaw a (Turns p n at body q)
-        turns-law a p n at body q ih V l calls weighed last plain handles full h e =
+        turns-law a p n at body q ih V l calls weighed listed last plain handles full h e =
             let k = in_code a in
             let X = entered image costs starts a body nothing in
             let B = branched image costs X V in
             let H = testing image costs p n at B in
             let J = jumping image costs (exit body) H in
-            let P : ℕ → Type 0 = IsPlain image cert costs in
-            let G = Good image cert costs in
+            let P : ℕ → Type 0 = IsPlain image cert costs find in
+            let G = Good image cert costs find in
             let t = test_lines image costs k p n at B in
             let u = code_lines image costs starts s a body J in
             let j = jump_lines image costs k (exit body) H in
@@ -490,27 +503,27 @@ module _ (image : Parts) (cert : CertParts) (costs : List ℕ) where
             let tests = at-left cert t u p h1 in
             let bodies = at-right cert t u p (entry body) (s1 ∙ l.2) h1 in
             let jumps = at-right cert (t ++ u) j p (exit body) s2 h in
-            let body_plain : P (entry body) = subst P l.2 (unit-plain image cert costs at (Branch (Some q)) l.1 refl) in
+            let body_plain : P (entry body) = subst P l.2 (unit-plain image cert costs find at (Branch (Some q)) l.1 refl) in
             let back_plain : P (exit body) = code-plain s (stack_of a) body l.3 body_plain in
-            let end_plain : P q = subst P l.5 (unit-plain image cert costs (exit body) (Jump (Some p)) l.4 refl) in
+            let end_plain : P q = subst P l.5 (unit-plain image cert costs find (exit body) (Jump (Some p)) l.4 refl) in
             let fullH : IsFull k H = full-in a (Turns p n at body q) V l last full in
             let fullJ : IsFull k J = later a (extra image costs (exit body) + cost_of costs class.Jump) H fullH in
             let body_end = jump-end a (exit body) H jumps in
             let body_here = body-first a body J (entry body) last.1 (code-first a body J l.3 last.0 bodies body_end) in
-            let head = test-first image cert costs k p n at B l.0 tests in
+            let head = test-first image cert costs find k p n at B l.0 tests in
             let known = known-in a handles in
             let fullX : IsFull k X = body-full a body l.3 last.0 last.1 in
             every-join p (behind image at) q G
-            (test-law image cert costs positive k p n at q X V l.0 l.1 tt plain known tests (moved image cert costs k (entry body) (behind image at) X (sym l.2) body_here) fullX e end_plain full)
-            (every-join (behind image at) (exit body) q G (from-other (entry body) (behind image at) (exit body) l.2 (ih J l.3 calls weighed last.0 body_plain handles fullJ bodies body_end))
-            (to-other (exit body) (behind image (exit body)) q l.5 (jump-law image cert costs positive k (exit body) p H l.4 tt back_plain known fullH jumps head plain)))
+            (test-law image cert costs find positive k p n at q X V l.0 l.1 tt plain known tests (moved image cert costs find k (entry body) (behind image at) X (sym l.2) body_here) fullX e end_plain full)
+            (every-join (behind image at) (exit body) q G (from-other (entry body) (behind image at) (exit body) l.2 (ih J l.3 calls weighed listed last.0 body_plain handles fullJ bodies body_end))
+            (to-other (exit body) (behind image (exit body)) q l.5 (jump-law image cert costs find positive k (exit body) p H l.4 tt back_plain known fullH jumps head plain)))
 
         forever-law : (a : List Handler) (body : Code) (q : ℕ) → CodeLaw a body → CodeLaw a (Forever body q)
-        forever-law a body q ih V l calls weighed last plain handles full h e =
+        forever-law a body q ih V l calls weighed listed last plain handles full h e =
             let k = in_code a in
             let H = entered image costs starts a body nothing in
             let J = jumping image costs (exit body) H in
-            let P : ℕ → Type 0 = IsPlain image cert costs in
+            let P : ℕ → Type 0 = IsPlain image cert costs find in
             let u = code_lines image costs starts s a body J in
             let j = jump_lines image costs k (exit body) H in
             let bodies = at-left cert u j (entry body) h in
@@ -520,19 +533,19 @@ module _ (image : Parts) (cert : CertParts) (costs : List ℕ) where
             let fullJ : IsFull k J = later a (extra image costs (exit body) + cost_of costs class.Jump) H fullH in
             let body_end = jump-end a (exit body) H jumps in
             let body_here = body-first a body J (entry body) last.1 (code-first a body J l.0 last.0 bodies body_end) in
-            every-join (entry body) (exit body) q (Good image cert costs) (ih J l.0 calls weighed last.0 plain handles fullJ bodies body_end)
-            (to-other (exit body) (behind image (exit body)) q l.2 (jump-law image cert costs positive k (exit body) (entry body) H l.1 tt back_plain (known-in a handles) fullH jumps body_here plain))
+            every-join (entry body) (exit body) q (Good image cert costs find) (ih J l.0 calls weighed listed last.0 plain handles fullJ bodies body_end)
+            (to-other (exit body) (behind image (exit body)) q l.2 (jump-law image cert costs find positive k (exit body) (entry body) H l.1 tt back_plain (known-in a handles) fullH jumps body_here plain))
 
         guarded-law : (a : List Handler) (p j : ℕ) (body : Code) → ((V : Numbers) → CodeLaw (with_abort image costs a j V) body) → CodeLaw a (Guarded p j body)
-        guarded-law a p j body ih V l calls weighed last plain handles full h e =
+        guarded-law a p j body ih V l calls weighed listed last plain handles full h e =
             let k = in_code a in
             let A = with_abort image costs a j V in
             let inner = in_code A in
             let L = left image costs a V in
             let W = entered image costs starts A body L in
             let M = after (cost_of costs class.Abrt) W in
-            let P : ℕ → Type 0 = IsPlain image cert costs in
-            let G = Good image cert costs in
+            let P : ℕ → Type 0 = IsPlain image cert costs find in
+            let G = Good image cert costs find in
             let u = code_lines image costs starts s A body L in
             let same = stack-with a (j, level V (length a)) in
             let I : List ℕ → Type 0 = λ stack. IsLaidIn image s stack body in
@@ -543,7 +556,7 @@ module _ (image : Parts) (cert : CertParts) (costs : List ℕ) where
             -- the handler
             let goal = (abort_at image j).handler in
             let at_handler : goal ≡ exit body + 1 = l.6 in
-            let end_plain : P (exit body + 1) = plain-next image cert costs (exit body) None Leave l.5 refl in
+            let end_plain : P (exit body + 1) = plain-next image cert costs find (exit body) None Leave l.5 refl in
             let condition = around.condition j l.1 in
             let T : ℕ → Type 0 = λ g. is_thread s (stack_of a) [] (line_at cert.lines g) ≡ true in
             let N : ℕ → Type 0 = λ g. (side : Side) → number image cert costs (On side (length a)) g ≡ on_side side (Some (level V (length a))) in
@@ -554,7 +567,7 @@ module _ (image : Parts) (cert : CertParts) (costs : List ℕ) where
               subst T (sym at_handler) (ap (is_thread s (stack_of a) []) e ∙ own-thread s (stack_of a) [] (map (level V) (range_with_len 0 (length (stack_of a) + 1)))),
               subst P (sym at_handler) end_plain,
               zero-level (length a) (λ i eq. subst (λ g. (side : Side) → number image cert costs (On side i) g ≡ on_side side (Some (level V (length a)))) (sym at_handler)
-                  (λ side. ap (λ n. number image cert costs (On side n) (exit body + 1)) eq ∙ numbered image cert costs k V (exit body + 1) (On side (length a)) e (omega (arith, x)) full ∙ sides V (length a) side)),
+                  (λ side. ap (λ n. number image cert costs (On side n) (exit body + 1)) eq ∙ numbered image cert costs find k V (exit body + 1) (On side (length a)) e (omega (arith, x)) full ∙ sides V (length a) side)),
               tt,
             ) in
             let all : AreHandled s 0 [] A = handled-more s 0 [] a (j, level V (length a)) handles own in
@@ -564,13 +577,13 @@ module _ (image : Parts) (cert : CertParts) (costs : List ℕ) where
             let s1 = size-one p (numbers.line k M) (exit body) u (size-from (p + 1) (entry body) (exit body) u l.3 (code-size image costs starts s A body L laid)) in
             let h1 = at-left cert (numbers.line k M ∷ u) (numbers.line inner L ∷ []) p h in
             let leaves = at-right cert (numbers.line k M ∷ u) (numbers.line inner L ∷ []) p (exit body) s1 h in
-            let At_u : ℕ → Type 0 = λ g. At image cert costs g u in
+            let At_u : ℕ → Type 0 = λ g. At image cert costs find g u in
             let bodies : At_u (entry body) = subst At_u l.3 h1.1 in
-            let body_plain : P (entry body) = subst P l.3 (plain-next image cert costs p None (Abrt j) l.0 refl) in
+            let body_plain : P (entry body) = subst P l.3 (plain-next image cert costs find p None (Abrt j) l.0 refl) in
             let body_here = code-first A body L laid last bodies leaves.0 in
             every-join p (p + 1) (exit body + 1) G
-            (every-one p G (enter-good a p j body V W l handles plain fullM fullW h1.0 (moved image cert costs inner (entry body) (p + 1) W (sym l.3) body_here)))
-            (every-join (p + 1) (exit body) (exit body + 1) G (from-other (entry body) (p + 1) (exit body) l.3 (ih V L laid calls weighed last body_plain all fullL bodies leaves.0))
+            (every-one p G (enter-good a p j body V W l handles plain fullM fullW h1.0 (moved image cert costs find inner (entry body) (p + 1) W (sym l.3) body_here)))
+            (every-join (p + 1) (exit body) (exit body + 1) G (from-other (entry body) (p + 1) (exit body) l.3 (ih V L laid calls weighed listed last body_plain all fullL bodies leaves.0))
             (every-one (exit body) G (leave-good a (exit body) j V l.5 all (code-plain s (stack_of A) body laid body_plain) full fullL leaves.0 e)))
           where
             sides : (V : Numbers) (n : ℕ) (side : Side) → V (On side n) ≡ on_side side (Some (level V n))
@@ -587,13 +600,13 @@ module _ (image : Parts) (cert : CertParts) (costs : List ℕ) where
                 (t.0, there-more (cost_of costs class.Leave) (V (On t.0 (min k (length a)))) t.1)
 
         pub code-law : (a : List Handler) (code : Code) → CodeLaw a code
-        code-law a (Passed r) = λ V l calls weighed last plain handles full h e.
+        code-law a (Passed r) = λ V l calls weighed listed last plain handles full h e.
             let few = l.1 in
-            region-law image cert costs positive (in_code a) r tt V l.0 calls weighed (l.2, l.3) (omega (arith, few)) plain (known-in a handles) full h e
+            region-law image cert costs find positive (in_code a) r tt V l.0 calls weighed listed (l.2, l.3) (omega (arith, few)) plain (known-in a handles) full h e
         code-law a (Sequence x y) = sequence-law a x y (code-law a x) (code-law a y)
         code-law a (Either p n at x y) = either-law a p n at x y (code-law a x) (code-law a y)
         code-law a (Turns p n at body q) = turns-law a p n at body q (code-law a body)
         code-law a (Forever body q) = forever-law a body q (code-law a body)
-        code-law a (Resting p) = λ V l calls weighed last plain handles full h e. every-one p (Good image cert costs) (rest-good a p V l handles plain (full-in a (Resting p) V l last full) h.0 e)
-        code-law a (Forking p lo n) = λ V l calls weighed last plain handles full h e. every-one p (Good image cert costs) (fork-good a p lo n V l handles plain full (full-in a (Forking p lo n) V l last full) h.0 e)
+        code-law a (Resting p) = λ V l calls weighed listed last plain handles full h e. every-one p (Good image cert costs find) (rest-good a p V l handles plain (full-in a (Resting p) V l last full) h.0 e)
+        code-law a (Forking p lo n) = λ V l calls weighed listed last plain handles full h e. every-one p (Good image cert costs find) (fork-good a p lo n V l handles plain full (full-in a (Forking p lo n) V l last full) h.0 e)
         code-law a (Guarded p j body) = guarded-law a p j body (λ V. code-law (with_abort image costs a j V) body)

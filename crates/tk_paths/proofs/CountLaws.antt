@@ -10,7 +10,7 @@ use Rattle.mb_isa.specs.declared.Instr.TheVariants as instr
 use Rattle.mb_isa.specs.Costs.{cost_of}
 use Rattle.pt_image.specs.declared.Point.{Point}
 use Rattle.pt_image.specs.declared.Parts.{Parts}
-use Rattle.pt_image.specs.Ranges.{IsPoint, IsImage}
+use Rattle.pt_image.specs.Ranges.{AllBelow, IsPoint, IsImage}
 use Rattle.tk_cert.specs.declared.cert.Line.{Line}
 use Rattle.tk_cert.specs.declared.cert.Line.TheVariants as line
 use Rattle.tk_cert.specs.declared.cert.Walk.{Walk}
@@ -29,14 +29,16 @@ use Rattle.tk_paths.specs.Codes.{Code, IsLaidIn}
 use Rattle.tk_paths.specs.Numbers.{Numbers, thread, routine, condition, level, just, entered, units_lines, region_lines, code_lines, region_weights, code_weights}
 use Rattle.tk_paths.specs.Numbers as numbers
 use Rattle.tk_paths.specs.Programs.{Section, OfThread, OfRoutine, OfCondition, Unused, Program, IsIn, IsProgram, pair_from, height, ended, starts_from, section_lines, section_weights, so_far, known_from, resumption, slots_from, certificate}
-use Rattle.tk_paths.specs.Counts.{Below, ArePairBelow, Within, words_most, total, region_most, way_most, code_most, starts_most_from, starts_most, section_most, greatest_most, waited_most, place_most, slots_most_from, slots_most, IsCounted}
+use Rattle.tk_paths.specs.Counts.{Below, ArePairBelow, Within, words_most, total, region_most, way_most, code_most, starts_most_from, starts_most, section_most, greatest_most, condition_most, tests_most, waited_most, place_most, slots_most_from, slots_most, IsCounted}
 use Rattle.tk_paths.proofs.Covered.{all-append}
-use Rattle.tk_paths.proofs.Ranges.{AreBelow, below-more, below-greater, below-plus, below-none, below-some, below-wider, AllWithin, line-within, all-wider, AreLight, light-wider, units-within, region-within, region-light}
-use Rattle.tk_paths.proofs.CodeRanges.{entered-below, code-within, code-light}
+use Rattle.tk_paths.proofs.Ranges.{AreBelow, below-more, below-greater, below-plus, below-none, below-some, below-wider, AllWithin, line-within, all-wider, AreLight, light-wider, units-most, units-within, region-within, region-light}
+use Rattle.tk_paths.proofs.CodeRanges.{begins-below, lines-below, code-light}
 use Rattle.tk_paths.proofs.Places.{level-number}
 use Rattle.tk_paths.proofs.Starts.{side-of, starts-are}
 use Rattle.tk_paths.proofs.Sections.{C, S, SectionAt, all-in, all-at, thread-at, code-of, start-line}
 use Rattle.tk_paths.proofs.SlotLaws.{get-past}
+use Rattle.tk_paths.proofs.UnitLaws.{units-first}
+use Rattle.tk_paths.specs.Regions.{units_cost}
 
 -- ---- sums over children that are resumed
 
@@ -53,7 +55,7 @@ module _ (f : Side → ℕ → Option ℕ) (worth : ℕ → ℕ) (small : (side 
   ends-within zero c = below-none 0
   ends-within (suc n) c = below-and (worth c) (total worth (c + 1) n) (f ToEnd c) (resumed_ends f (c + 1) n) (small ToEnd c) (ends-within n (c + 1))
 
-  most-within : (n c : ℕ) → resumed_most f c n ≤ total worth c n
+  pub most-within : (n c : ℕ) → resumed_most f c n ≤ total worth c n
   most-within zero c = omega arith
   most-within (suc n) c =
       let a = zero-within (worth c) (greater (f ToPause c) (f ToEnd c)) (below-greater (worth c) (f ToPause c) (f ToEnd c) (small ToPause c) (small ToEnd c)) in
@@ -130,13 +132,10 @@ get-front zero c x xs h = absurd (omega (arith, h))
 get-front (suc n) zero x xs h = refl
 get-front (suc n) (suc c) x xs h = get-front n c x xs (omega (arith, h))
 
--- any certificate whose lines are within a number
-module _ (image : Parts) (cert : CertParts) (costs : List ℕ) (P : ℕ) (fits : AllWithin P cert.lines) where
+-- any certificate whose lines are within a number, and the conditions of whose aborts are within another
+module _ (image : Parts) (cert : CertParts) (costs : List ℕ) (P Q : ℕ) (fits : AllWithin P cert.lines) (tests : (j : ℕ) → j < length image.aborts → value image cert costs ((abort_at image j).cond) ≤ Q) where
   num-within : (side : Side) (k p : ℕ) → Below P (num image cert costs side k p)
   num-within side k p = side-within P (line_at cert.lines p) side k (index-among (Within P) cert.lines p line.Bare fits tt)
-
-  cond-within : (p : ℕ) → value image cert costs p ≤ P
-  cond-within p = value-within P (line_at cert.lines p) (index-among (Within P) cert.lines p line.Bare fits tt)
 
   handlers-within : (side : Side) (i : ℕ) (stack : List ℕ) (k : ℕ) → Below P (handlers image cert costs side i stack k)
   handlers-within side i [] k = below-none P
@@ -155,36 +154,35 @@ module _ (image : Parts) (cert : CertParts) (costs : List ℕ) (P : ℕ) (fits :
   resting-within : (side : Side) (stack : List ℕ) (k : ℕ) → Below P (resting image cert costs stack k side)
   resting-within side stack k = below-greater P (stays side) (handlers image cert costs side 0 stack k) (stays-within side) (handlers-within side 0 stack k)
 
-  tested-within : (R : ℕ) → P ≤ R → (side : Side) (i : ℕ) (stack : List ℕ) (rest : Option ℕ) → Below R rest → Below (length stack * P + R) (tested image cert costs side i stack rest)
-  tested-within R wide side i [] rest f = below-wider R (0 * P + R) rest (omega arith) f
-  tested-within R wide side i (j ∷ stack) rest f =
+  tested-within : (R : ℕ) → P ≤ R → (side : Side) (i : ℕ) (stack : List ℕ) (rest : Option ℕ) → AllBelow (length image.aborts) stack → Below R rest → Below (length stack * Q + R) (tested image cert costs side i stack rest)
+  tested-within R wide side i [] rest there f = below-wider R (0 * Q + R) rest (omega arith) f
+  tested-within R wide side i (j ∷ stack) rest there f =
       let v = value image cert costs ((abort_at image j).cond) in
       let strong = if (abort_at image j).weak then None else num image cert costs side i ((abort_at image j).handler) in
       let later = tested image cert costs side (i + 1) stack rest in
-      let B = length stack * P + R in
-      let e : P + B ≡ length (j ∷ stack) * P + R = (let x : suc (length stack) * P ≡ length stack * P + P = omega arith in omega (arith, x)) in
-      below-wider (P + B) (length (j ∷ stack) * P + R) (more v (greater strong later)) (omega (arith, e))
-      (below-more P B v (greater strong later) (below-greater B strong later (below-wider P B strong (omega (arith, wide)) (by (abort_at image j).weak)) (tested-within R wide side (i + 1) stack rest f)) (cond-within ((abort_at image j).cond)))
+      let B = length stack * Q + R in
+      let e : Q + B ≡ length (j ∷ stack) * Q + R = (let x : suc (length stack) * Q ≡ length stack * Q + Q = omega arith in omega (arith, x)) in
+      below-wider (Q + B) (length (j ∷ stack) * Q + R) (more v (greater strong later)) (omega (arith, e))
+      (below-more Q B v (greater strong later) (below-greater B strong later (below-wider P B strong (omega (arith, wide)) (by (abort_at image j).weak)) (tested-within R wide side (i + 1) stack rest there.1 f)) (tests j there.0))
     where
       by : (b : Bool) → Below P (if b then None else num image cert costs side i ((abort_at image j).handler))
       by true = below-none P
       by false = num-within side i ((abort_at image j).handler)
 
-  tested-eight : (R : ℕ) → P ≤ R → (side : Side) (stack : List ℕ) (rest : Option ℕ) → length stack ≤ 8 → Below R rest → Below (8 * P + R) (tested image cert costs side 0 stack rest)
-  tested-eight R wide side stack rest few f =
-      let m = mul-left (length stack) 8 P few in
-      below-wider (length stack * P + R) (8 * P + R) (tested image cert costs side 0 stack rest) (omega (arith, m)) (tested-within R wide side 0 stack rest f)
+  tested-eight : (R : ℕ) → P ≤ R → (side : Side) (stack : List ℕ) (rest : Option ℕ) → length stack ≤ 8 → AllBelow (length image.aborts) stack → Below R rest → Below (8 * Q + R) (tested image cert costs side 0 stack rest)
+  tested-eight R wide side stack rest few there f =
+      let m = mul-left (length stack) 8 Q few in
+      below-wider (length stack * Q + R) (8 * Q + R) (tested image cert costs side 0 stack rest) (omega (arith, m)) (tested-within R wide side 0 stack rest there f)
 
-  paused-point : (side : Side) (p : Point) → length p.stack ≤ 8 → Below (9 * P) (paused image cert costs side p)
-  paused-point side p few =
-      below-wider (8 * P + P) (9 * P) (paused image cert costs side p) (omega arith) (tested-eight P (omega arith) side p.stack (num image cert costs side (length p.stack) (p.at + 1)) few (num-within side (length p.stack) (p.at + 1)))
+  paused-point : (side : Side) (p : Point) → length p.stack ≤ 8 → AllBelow (length image.aborts) p.stack → Below (8 * Q + P) (paused image cert costs side p)
+  paused-point side p few there = tested-eight P (omega arith) side p.stack (num image cert costs side (length p.stack) (p.at + 1)) few there (num-within side (length p.stack) (p.at + 1))
 
-  waited-point : (worth : ℕ → ℕ) → ((side : Side) (c : ℕ) → Below (worth c) (resumed image cert costs side c)) → (side : Side) (p : Point) → length p.stack ≤ 8 →
-      Below (9 * P + total worth ((children_at image p.at).0) ((children_at image p.at).1)) (waited image cert costs side p)
-  waited-point worth small side p few = by (instr_at image p.at)
+  waited-point : (worth : ℕ → ℕ) → ((side : Side) (c : ℕ) → Below (worth c) (resumed image cert costs side c)) → (side : Side) (p : Point) → length p.stack ≤ 8 → AllBelow (length image.aborts) p.stack →
+      Below (8 * Q + P + total worth ((children_at image p.at).0) ((children_at image p.at).1)) (waited image cert costs side p)
+  waited-point worth small side p few there = by (instr_at image p.at)
     where
-      by : (o : Option Instr) → Below (9 * P + total worth ((children_in o).0) ((children_in o).1)) (waited_by image cert costs o side p)
-      by None = below-none (9 * P + 0)
+      by : (o : Option Instr) → Below (8 * Q + P + total worth ((children_in o).0) ((children_in o).1)) (waited_by image cert costs o side p)
+      by None = below-none (8 * Q + P + 0)
       by (Some (instr.Fork lo n)) =
           let T = total worth lo n in
           let f = resumed image cert costs in
@@ -193,14 +191,14 @@ module _ (image : Parts) (cert : CertParts) (costs : List ℕ) (P : ℕ) (fits :
           let b = plus (ending_sum image cert costs lo n) (num image cert costs side k (p.at + 1)) in
           let inner = below-greater (T + P) a b (below-plus T P (pausing_sum image cert costs lo n) (resting image cert costs p.stack k side) (paused-within f worth small n lo) (resting-within side p.stack k))
           (below-plus T P (ending_sum image cert costs lo n) (num image cert costs side k (p.at + 1)) (ends-within f worth small n lo) (num-within side k (p.at + 1))) in
-          let whole = tested-eight (T + P) (omega arith) side p.stack (greater a b) few inner in
+          let whole = tested-eight (T + P) (omega arith) side p.stack (greater a b) few there inner in
           gate (greater (ending_sum image cert costs lo n) (pausing_sum image cert costs lo n)) (tested image cert costs side 0 p.stack (greater a b))
-          (below-wider (8 * P + (T + P)) (9 * P + T) (tested image cert costs side 0 p.stack (greater a b)) (omega arith) whole)
+          (below-wider (8 * Q + (T + P)) (8 * Q + P + T) (tested image cert costs side 0 p.stack (greater a b)) (omega arith) whole)
         where
           gate : {d : ℕ} (x y : Option ℕ) → Below d y → Below d (where_some x y)
           gate {d} None y h = below-none d
           gate (Some z) y h = h
-      by (Some other) = below-none (9 * P + 0)
+      by (Some other) = below-none (8 * Q + P + 0)
 
 greatest-within : (b : ℕ) (l : List (Option ℕ)) → AllByRecursion (Below b) l → greatest l ≤ b
 greatest-within b [] h = omega arith
@@ -220,6 +218,9 @@ module _ (image : Parts) (program : Program) (costs : List ℕ) (walk : Walk) (o
   abbrev T : ℕ → ℕ
   T = starts_most image program.threads
 
+  abbrev Q : ℕ
+  Q = tests_most image program.sections
+
   ended-below : AreBelow 255 (ended image costs)
   ended-below (On ToPause k) = below-none 255
   ended-below (On ToEnd k) = below-some 255 (cost_of costs class.End) (small class.End)
@@ -237,7 +238,7 @@ module _ (image : Parts) (program : Program) (costs : List ℕ) (walk : Walk) (o
       let V = entered image costs F' [] c (ended image costs) in
       let B : Option ℕ → Type 0 = Below (way_most image T' c + 255) in
       subst B (sym (side-of V side 0))
-      (entered-below image costs small F' T' (λ x d. starts-suffix rest (s + 1) (λ i code e. laid (suc i) code e) (d - (s + 1)) x) l.0 [] c [] 255 (ended image costs) l.1 (λ x k. below-none 255) ended-below (On side 0))
+      (begins-below image costs small F' T' (λ x d. starts-suffix rest (s + 1) (λ i code e. laid (suc i) code e) (d - (s + 1)) x) l.0 c (ended image costs) l.1 ended-below (On side 0))
   starts-suffix (c ∷ rest) s laid (suc i) side = starts-suffix rest (s + 1) (λ j code e. laid (suc j) code e) i side
 
   starts-within : (side : Side) (c : ℕ) → Below (T c) (S image program costs walk side c)
@@ -252,7 +253,7 @@ module _ (image : Parts) (program : Program) (costs : List ℕ) (walk : Walk) (o
   section-within (OfThread s code) f =
       let B = code_most image T code + 255 in
       all-append (Within B) (code_lines image costs (S image program costs walk) s [] code (ended image costs)) (numbers.line (thread s [] []) (ended image costs) ∷ [])
-      (code-within image costs small (S image program costs walk) T starts-within s [] code [] 255 (ended image costs) f.0 (λ x k. below-none 255) ended-below)
+      (lines-below image costs small (S image program costs walk) T starts-within s code (ended image costs) f.0 ended-below)
       (line-within (thread s [] []) B (ended image costs) (λ view. below-wider 255 B (ended image costs view) (omega arith) (ended-below view)), tt)
   section-within (OfRoutine r) f =
       let B = region_most image r + 255 in
@@ -274,12 +275,12 @@ module _ (image : Parts) (program : Program) (costs : List ℕ) (walk : Walk) (o
       bare-within b (suc n) = (tt, bare-within b n)
 
   section-light : (x : Section) → SectionAt image program costs walk x → AreLight (section_most image program.threads x) (section_weights image costs program x)
-  section-light (OfThread s code) f = light-wider (code_most image T code) (code_most image T code + 255) (code_weights image costs code) (omega arith) (code-light image costs small (S image program costs walk) T starts-within s [] code f.0)
+  section-light (OfThread s code) f = light-wider (way_most image T code) (code_most image T code + 255) (code_weights image costs code) (omega arith) (code-light image costs small (S image program costs walk) T starts-within s [] code f.0)
   section-light (OfRoutine r) f = light-wider (region_most image r) (region_most image r + 255) (region_weights image costs r) (omega arith) (region-light image costs small r f.0)
   section-light (OfCondition p n q) f = tt
   section-light (Unused n) f = tt
 
-  most-of : (xs : List Section) (x : Section) → IsIn x xs → section_most image program.threads x ≤ greatest_most image program.threads xs
+  pub most-of : (xs : List Section) (x : Section) → IsIn x xs → section_most image program.threads x ≤ greatest_most image program.threads xs
   most-of [] x h = absurd h
   most-of (y ∷ xs) x h =
       let M : Section → ℕ = section_most image program.threads in
@@ -301,13 +302,34 @@ module _ (image : Parts) (program : Program) (costs : List ℕ) (walk : Walk) (o
       (λ x h. light-wider (section_most image program.threads x) P (section_weights image costs program x) (most-of program.sections x h)
       (section-light x (all-in (SectionAt image program costs walk) program.sections x (all-at image program costs walk ok positive) h)))
 
+  -- ---- conditions
+
+  test-of : (xs : List Section) (x : Section) → IsIn x xs → condition_most image x ≤ tests_most image xs
+  test-of [] x h = absurd h
+  test-of (y ∷ xs) x h =
+      let M : Section → ℕ = condition_most image in
+      ⊎_elim (λ e. let s : M y ≡ M x = ap M e in omega (arith, s)) (λ r. let m = test-of xs x r in omega (arith, m)) h
+
+  tests-within : (j : ℕ) → j < length image.aborts → value image (C image program costs walk) costs ((abort_at image j).cond) ≤ Q
+  tests-within j h =
+      let t = ok.tested j h in
+      let p = (abort_at image j).cond in
+      let cend = cost_of costs class.Cend in
+      let u = units_cost image costs p t.0 in
+      let f = all-in (SectionAt image program costs walk) program.sections (OfCondition p t.0 t.1) (all-at image program costs walk ok positive) t.2 in
+      let e : value image (C image program costs walk) costs p ≡ u + cend = ap value_of (units-first image (C image program costs walk) costs (λ p. None) condition t.0 p t.1 (just cend) f.0 f.3 f.4) in
+      let a = units-most image costs small t.0 p t.1 f.0 in
+      let b = small class.Cend in
+      let m = test-of program.sections (OfCondition p t.0 t.1) t.2 in
+      omega (arith, e, a, b, m)
+
   -- ---- slots
 
-  few-pauses : (p : Point) → IsAmong p image.pauses → length p.stack ≤ 8
-  few-pauses p h = (all-among (IsPoint image) image.pauses p image_is.pauses.1 h).2
+  few-pauses : (p : Point) → IsAmong p image.pauses → (length p.stack ≤ 8) × AllBelow (length image.aborts) p.stack
+  few-pauses p h = let i = all-among (IsPoint image) image.pauses p image_is.pauses.1 h in (i.2, i.3)
 
-  few-forks : (p : Point) → IsAmong p image.forks → length p.stack ≤ 8
-  few-forks p h = (all-among (IsPoint image) image.forks p image_is.forks.1 h).2
+  few-forks : (p : Point) → IsAmong p image.forks → (length p.stack ≤ 8) × AllBelow (length image.aborts) p.stack
+  few-forks p h = let i = all-among (IsPoint image) image.forks p image_is.forks.1 h in (i.2, i.3)
 
   slots-within : (n s i : ℕ) (side : Side) → Below (slice_index_or (slots_most_from image program s n) i 0) (on_side side (slice_get (slots_from image costs program s n) i))
   slots-within zero s i side = below-none 0
@@ -317,15 +339,17 @@ module _ (image : Parts) (program : Program) (costs : List ℕ) (walk : Walk) (o
       let worth : ℕ → ℕ = λ c. slice_index_or (slots_most_from image program (s + 1) n) (c - (s + 1)) 0 in
       let K = so_far image costs program pairs in
       let known : (x : Side) (c : ℕ) → Below (worth c) (resumed image K costs x c) = λ x c. later-within x c (λ i. slots-within n (s + 1) i x) in
-      let B = 9 * P + waited_most image worth s image.forks in
+      let own = 8 * Q + P in
+      let B = own + waited_most image worth s image.forks in
       let one : (x : Side) → Below B (resumption image costs program pairs s x) = λ x.
       below-greater B (best (paused image K costs x) s image.pauses) (best (waited image K costs x) s image.forks)
-      (below-wider (9 * P) B (best (paused image K costs x) s image.pauses) (omega arith) (best-within (9 * P) s (paused image K costs x) image.pauses (λ p h. paused-point image K costs P lines-within x p (few-pauses p h))))
-      (waiting-within image (9 * P) s worth (waited image K costs x) image.forks (λ p h. waited-point image K costs P lines-within worth known x p (few-forks p h))) in
+      (below-wider own B (best (paused image K costs x) s image.pauses) (omega arith)
+      (best-within own s (paused image K costs x) image.pauses (λ p h. let few = few-pauses p h in paused-point image K costs P Q lines-within tests-within x p few.0 few.1)))
+      (waiting-within image own s worth (waited image K costs x) image.forks (λ p h. let few = few-forks p h in waited-point image K costs P Q lines-within tests-within worth known x p few.0 few.1)) in
       by side one
     where
-      by : (x : Side) → ((y : Side) → Below (9 * P + waited_most image (λ c. slice_index_or (slots_most_from image program (s + 1) n) (c - (s + 1)) 0) s image.forks) (resumption image costs program (known_from image costs program s (slots_from image costs program (s + 1) n)) s y)) →
-          Below (9 * P + waited_most image (λ c. slice_index_or (slots_most_from image program (s + 1) n) (c - (s + 1)) 0) s image.forks) (on_side x (slice_get (slots_from image costs program s (suc n)) 0))
+      by : (x : Side) → ((y : Side) → Below (8 * Q + P + waited_most image (λ c. slice_index_or (slots_most_from image program (s + 1) n) (c - (s + 1)) 0) s image.forks) (resumption image costs program (known_from image costs program s (slots_from image costs program (s + 1) n)) s y)) →
+          Below (8 * Q + P + waited_most image (λ c. slice_index_or (slots_most_from image program (s + 1) n) (c - (s + 1)) 0) s image.forks) (on_side x (slice_get (slots_from image costs program s (suc n)) 0))
       by ToPause f = f ToPause
       by ToEnd f = f ToEnd
 
@@ -350,7 +374,7 @@ module _ (image : Parts) (program : Program) (costs : List ℕ) (walk : Walk) (o
       let g = code-of image program costs walk ok positive 0 (omega (arith, some)) in
       let V = entered image costs (S image program costs walk) [] g.0 (ended image costs) in
       let B : Option ℕ → Type 0 = Below (T 0) in
-      let e = level-number image (C image program costs walk) costs 0 [] [] V (start_of image 0) side 0 (start-line image program costs walk ok positive 0 g.0 g.1) (omega arith) in
+      let e = level-number image (C image program costs walk) costs (λ p. None) 0 [] [] V (start_of image 0) side 0 (start-line image program costs walk ok positive 0 g.0 g.1) (omega arith) in
       let k = starts-are image costs program.threads 0 g.0 g.1 (thread-at image program costs walk ok positive 0 g.0 g.1).0 side in
       subst B (k ∙ sym e) (starts-within side 0)
 
@@ -369,6 +393,7 @@ module _ (image : Parts) (program : Program) (costs : List ℕ) (walk : Walk) (o
   counted = record {
     lines = lines-within;
     weights = weights-within;
+    starts = λ side s. starts-within side s;
     slots = λ s side. resumed-within side s;
     bound = (let b = bound-within in omega (arith, b));
   }

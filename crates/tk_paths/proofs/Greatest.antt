@@ -75,7 +75,7 @@ module _ (image : Parts) (cert : CertParts) (costs : List ℕ) where
       )
 
   -- a point of a list is listed
-  listed-so : (points : List Point) (p : Point) → IsAmong p points → is_listed points p.at p.slot p.stack ≡ true
+  pub listed-so : (points : List Point) (p : Point) → IsAmong p points → is_listed points p.at p.slot p.stack ≡ true
   listed-so points p among = passes-any (is_point p.at p.slot p.stack) points p among (own p)
     where
       same : (n : ℕ) → (n == n) ≡ true

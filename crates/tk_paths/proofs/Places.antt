@@ -28,11 +28,12 @@ use Rattle.tk_bound.specs.Shape.{may_follow, keeps_kind, word_is_shaped, aborts_
 use Rattle.tk_bound.specs.Acceptance.{number_in, level_of, number, more, views_of, edge, word_edges, line_edges}
 use Rattle.tk_bound.proofs.Lists.{IsAmong, three_parts}
 use Rattle.tk_bound.proofs.Carried.{same-list}
-use Rattle.tk_paths.specs.Regions.{behind_half, half, word_place, behind, IsUnit, half_cost, extra}
+use Rattle.tk_paths.specs.Regions.{Region, behind_half, half, word_place, behind, IsUnit, half_cost, extra}
 use Rattle.tk_paths.specs.Reached.{IsOpen}
-use Rattle.tk_paths.specs.Greatest.{IsStraight, IsGreatestWith, IsStraightCondition}
+use Rattle.tk_paths.specs.Greatest.{IsStraightCondition}
 use Rattle.tk_paths.specs.Numbers.{Kind, thread, routine, condition, Numbers, level, after, half_lines, unit_lines}
 use Rattle.tk_paths.specs.Numbers as numbers
+use Rattle.tk_paths.proofs.Steps.{IsStep, IsStepWith}
 use Rattle.tk_paths.proofs.Covered.{Covers, holds-of, all-flat-in, Holding}
 use Rattle.tk_paths.proofs.Lines.{Fits, IsFull, full-map, line-same, kind-same, levels-size, levels-full, level-is, number-is, view-fits, AreAt}
 
@@ -85,7 +86,7 @@ imm-there (Some other) u e = absurd (none-some u e)
 
 module _ (image : Parts) where
   -- a word that is read as no upper half isn't one
-  no-half : (p : ℕ) (upper : Option ℤ) (o : Option Instr) (w : Word) → read_instr image p upper o ≡ Some w → is_imm w ≡ false → imm_in o ≡ None
+  pub no-half : (p : ℕ) (upper : Option ℤ) (o : Option Instr) (w : Word) → read_instr image p upper o ≡ Some w → is_imm w ≡ false → imm_in o ≡ None
   no-half p upper None w e n = refl
   no-half p upper (Some (instr.Imm v)) w e n = by (is_barred upper (instr.Imm v)) e
     where
@@ -111,24 +112,24 @@ module _ (image : Parts) where
       by true k = refl
       by false k = absurd (none-some w k)
 
-  pub straight-with : (cert : CertParts) (costs : List ℕ) (p s : ℕ) (a : List ℕ) (o : Option Instr) (w : Word) → read_instr image p None o ≡ Some w → is_straight w ≡ true → IsStraight image cert costs p s a → IsGreatestWith image cert costs o p s a
-  straight-with cert costs p s a None w e k g = g
-  straight-with cert costs p s a (Some (instr.Abrt j)) w e k g = absurd (false≢true (ap is_straight (same_Some (Abrt j) w e) ∙ k))
-  straight-with cert costs p s a (Some instr.Leave) w e k g = absurd (false≢true (ap is_straight (same_Some Leave w e) ∙ k))
-  straight-with cert costs p s a (Some instr.Eot) w e k g = absurd (false≢true (ap is_straight (same_Some Eot w e) ∙ k))
-  straight-with cert costs p s a (Some (instr.Fork lo n)) w e k g = absurd (false≢true (ap is_straight (same_Some (Fork lo n) w e) ∙ k))
-  straight-with cert costs p s a (Some instr.End) w e k g = absurd (false≢true (ap is_straight (same_Some End w e) ∙ k))
-  straight-with cert costs p s a (Some other) w e k g = g
+  pub straight-with : (cert : CertParts) (costs : List ℕ) (find : ℕ → Option Region) (p s : ℕ) (a : List ℕ) (o : Option Instr) (w : Word) → read_instr image p None o ≡ Some w → is_straight w ≡ true → IsStep image cert costs find p s a → IsStepWith image cert costs find o p s a
+  straight-with cert costs find p s a None w e k g = g
+  straight-with cert costs find p s a (Some (instr.Abrt j)) w e k g = absurd (false≢true (ap is_straight (same_Some (Abrt j) w e) ∙ k))
+  straight-with cert costs find p s a (Some instr.Leave) w e k g = absurd (false≢true (ap is_straight (same_Some Leave w e) ∙ k))
+  straight-with cert costs find p s a (Some instr.Eot) w e k g = absurd (false≢true (ap is_straight (same_Some Eot w e) ∙ k))
+  straight-with cert costs find p s a (Some (instr.Fork lo n)) w e k g = absurd (false≢true (ap is_straight (same_Some (Fork lo n) w e) ∙ k))
+  straight-with cert costs find p s a (Some instr.End) w e k g = absurd (false≢true (ap is_straight (same_Some End w e) ∙ k))
+  straight-with cert costs find p s a (Some other) w e k g = g
 
   -- the unit at an open place
-  pub straight-at : (cert : CertParts) (costs : List ℕ) (p s : ℕ) (a : List ℕ) (w : Word) → IsUnit image p w → is_straight w ≡ true → IsStraight image cert costs p s a → IsGreatestWith image cert costs (instr_at image p) p s a
-  straight-at cert costs p s a w unit k g = by (half image p) refl unit
+  pub straight-at : (cert : CertParts) (costs : List ℕ) (find : ℕ → Option Region) (p s : ℕ) (a : List ℕ) (w : Word) → IsUnit image p w → is_straight w ≡ true → IsStep image cert costs find p s a → IsStepWith image cert costs find (instr_at image p) p s a
+  straight-at cert costs find p s a w unit k g = by (half image p) refl unit
     where
-      by : (o : Option ℤ) → half image p ≡ o → read image (behind_half o p) o ≡ Some w → IsGreatestWith image cert costs (instr_at image p) p s a
-      by None e u = straight-with cert costs p s a (instr_at image p) w u k g
-      by (Some v) e u = let G : Option Instr → Type 0 = λ o. IsGreatestWith image cert costs o p s a in subst G (sym (imm-there (instr_at image p) v e)) g
+      by : (o : Option ℤ) → half image p ≡ o → read image (behind_half o p) o ≡ Some w → IsStepWith image cert costs find (instr_at image p) p s a
+      by None e u = straight-with cert costs find p s a (instr_at image p) w u k g
+      by (Some v) e u = let G : Option Instr → Type 0 = λ o. IsStepWith image cert costs find o p s a in subst G (sym (imm-there (instr_at image p) v e)) g
 
-module _ (image : Parts) (cert : CertParts) (costs : List ℕ) where
+module _ (image : Parts) (cert : CertParts) (costs : List ℕ) (find : ℕ → Option Region) where
   abbrev pub IsPlain : ℕ → Type 0
   IsPlain p = upper_at image cert.lines p ≡ None
 
@@ -209,9 +210,20 @@ module _ (image : Parts) (cert : CertParts) (costs : List ℕ) where
   abbrev pub Unasked : Type 0
   Unasked = (p : ℕ) (u : ℤ) → upper_at image cert.lines p ≡ Some u → is_asked image cert.lines p ≡ false
 
+  -- where a thread is in no bounded loop
+  abbrev pub Openly : Kind → Type 0 → Type 0
+  Openly (thread s a []) T = T
+  Openly other T = Unit {0}
+
+  pub openly-map : (kind : Kind) (T U : Type 0) → (T → U) → Openly kind T → Openly kind U
+  openly-map (thread s a []) T U f h = f h
+  openly-map (thread s a (x ∷ l)) T U f h = tt
+  openly-map (routine g l) T U f h = tt
+  openly-map condition T U f h = tt
+
   -- at a place that is read with no upper half, the greatest number
   abbrev pub Meets : ℕ → Kind → Type 0
-  Meets p (thread s a []) = IsGreatestWith image cert costs (instr_at image p) p s a
+  Meets p (thread s a []) = IsStepWith image cert costs find (instr_at image p) p s a
   Meets p (thread s a (x ∷ l)) = Unit {0}
   Meets p (routine h l) = Unit {0}
   Meets p condition = IsStraightCondition image cert costs p
@@ -223,7 +235,7 @@ module _ (image : Parts) (cert : CertParts) (costs : List ℕ) where
     pub shaped : Unasked → line_is_shaped image cert p (line_at cert.lines p) ≡ true
     pub edged : AllHold (line_edges image cert costs p (line_at cert.lines p))
     pub asks : (goal : ℕ) → IsAmong goal (asked_from image cert.lines p) → IsPlain goal
-    pub great : (s : ℕ) (a : List ℕ) → IsOpen image cert costs p s a → IsGreatestWith image cert costs (instr_at image p) p s a
+    pub great : (s : ℕ) (a : List ℕ) → IsOpen image cert costs p s a → IsStepWith image cert costs find (instr_at image p) p s a
     pub straight : is_cond (line_at cert.lines p) ≡ true → IsPlain p → IsStraightCondition image cert costs p
 
   spoken-by : (kind : Kind) (V : Numbers) → numbers.line kind V ≡ line.Bare → ⊥
@@ -271,12 +283,12 @@ module _ (image : Parts) (cert : CertParts) (costs : List ℕ) where
       by (routine g l) kn f k = f k
       by condition kn f k = f k
 
-  great-by : (kind : Kind) (V : Numbers) (p s : ℕ) (a : List ℕ) → is_thread s a [] (numbers.line kind V) ≡ true → Meets p kind → IsGreatestWith image cert costs (instr_at image p) p s a
+  great-by : (kind : Kind) (V : Numbers) (p s : ℕ) (a : List ℕ) → is_thread s a [] (numbers.line kind V) ≡ true → Meets p kind → IsStepWith image cert costs find (instr_at image p) p s a
   great-by (thread t b l) V p s a h m = by l (three_parts (t == s) (same_numbers b a) (same_numbers l []) h) m
     where
-      by : (l : List ℕ) → ((t == s) ≡ true) × (same_numbers b a ≡ true) × (same_numbers l [] ≡ true) → Meets p (thread t b l) → IsGreatestWith image cert costs (instr_at image p) p s a
+      by : (l : List ℕ) → ((t == s) ≡ true) × (same_numbers b a ≡ true) × (same_numbers l [] ≡ true) → Meets p (thread t b l) → IsStepWith image cert costs find (instr_at image p) p s a
       by [] q m =
-          let G : ℕ → List ℕ → Type 0 = λ x y. IsGreatestWith image cert costs (instr_at image p) p x y in
+          let G : ℕ → List ℕ → Type 0 = λ x y. IsStepWith image cert costs find (instr_at image p) p x y in
           subst (λ y. G s y) (same-list b a q.1) (subst (λ x. G x b) (eqb-true t s q.0) m)
       by (x ∷ l) q m = absurd (false≢true q.2)
   great-by (routine g l) V p s a h m = absurd (false≢true h)

@@ -10,12 +10,12 @@ use Rattle.tk_bound.specs.Bounded.{IsAcceptedFor}
 use Rattle.tk_bound.proofs.Lists.{all-among}
 use Rattle.tk_paths.specs.Greatest.{IsGreatest}
 use Rattle.tk_paths.specs.Programs.{Program, IsPauseIn, IsForkIn, IsProgram, certificate}
-use Rattle.tk_paths.proofs.Sections.{sections-size, weights-rise, code-of, start-kind, start-plain, covered, thread-good}
+use Rattle.tk_paths.proofs.Sections.{F, sections-size, weights-rise, code-of, start-kind, start-plain, covered, thread-good}
 use Rattle.tk_paths.proofs.SlotLaws.{slot-greatest, bounds-size}
 use Rattle.tk_paths.proofs.Accepting.{IsSound, greatest, accepted}
 
 module _ (image : Parts) (program : Program) (costs : List ℕ) (walk : Walk) (ok : IsProgram image program) (image_is : IsImage image) (positive : (c : Class) → 1 ≤ cost_of costs c) where
-  sound : IsSound image (certificate image costs program walk) costs
+  pub sound : IsSound image (certificate image costs program walk) costs (F image program costs walk)
   sound =
       let some = image_is.slots.0 in
       let first = code-of image program costs walk ok positive 0 (omega (arith, some)) in
@@ -38,7 +38,7 @@ module _ (image : Parts) (program : Program) (costs : List ℕ) (walk : Walk) (o
       }
 
   pub program-greatest : IsGreatest image (certificate image costs program walk) costs
-  program-greatest = greatest image (certificate image costs program walk) costs image_is sound
+  program-greatest = greatest image (certificate image costs program walk) costs (F image program costs walk) image_is sound
 
   pub program-accepted : IsCosts costs → IsAcceptedFor image (certificate image costs program walk) costs
-  program-accepted priced = accepted image (certificate image costs program walk) costs image_is sound priced
+  program-accepted priced = accepted image (certificate image costs program walk) costs (F image program costs walk) image_is sound priced

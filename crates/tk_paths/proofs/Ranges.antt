@@ -17,7 +17,7 @@ use Rattle.tk_bound.specs.Acceptance.{more}
 use Rattle.tk_paths.specs.Regions.{Region, Words, Then, Choice, Counted, Repeated, Calling, from, to, behind_half, half, word_place, behind, unit_word, AreUnits, IsLaid, half_cost, extra, word_cost, units_cost, leaving, through}
 use Rattle.tk_paths.specs.Numbers.{Kind, thread, routine, condition, inside, Numbers, level, nothing, Handler, stack_of, after, next_number, half_lines, unit_lines, units_lines, branched, jumping, jump_lines, testing, test_lines, passing, tested_weight, plain_weight, at_next, at_test, region_lines, region_weights, handled, rested, left, with_abort, grouped, entered, code_lines, code_weights}
 use Rattle.tk_paths.specs.Numbers as numbers
-use Rattle.tk_paths.specs.Counts.{Below, ArePairBelow, Within, words_most, region_most}
+use Rattle.tk_paths.specs.Counts.{Below, ArePairBelow, Within, words_most, turn_most, region_most}
 use Rattle.tk_paths.proofs.Covered.{all-append}
 use Rattle.tk_paths.proofs.MaxPlus.{greater-is, plus-is, more-is}
 use Rattle.tk_paths.proofs.Weights.{RisesTo, units-after, region-rises}
@@ -202,8 +202,8 @@ module _ (image : Parts) (costs : List ℕ) (small : (c : Class) → cost_of cos
 
   -- a whole turn, the way out, and one `next`
   weight-most : (p m n at : ℕ) (body : Region) (q : ℕ) → IsLaid image (Counted p m n at body q) → through image costs body ≤ region_most image body →
-      (tested_weight image costs p n at body ≤ words_most (behind image p) (q + 1) + region_most image body)
-      × (leaving image costs p n at ≤ words_most (behind image p) (q + 1) + region_most image body) × (cost_of costs class.Next ≤ words_most (behind image p) (q + 1) + region_most image body)
+      (tested_weight image costs p n at body ≤ turn_most image p body q (region_most image body))
+      × (leaving image costs p n at ≤ words_most (behind image p) (from body) + 255) × (cost_of costs class.Next ≤ words_most (behind image p) (from body))
   weight-most p m n at body q l t =
       let head = behind image p in
       let u = units-most n (head + 1) at l.2 in
@@ -214,22 +214,18 @@ module _ (image : Parts) (costs : List ℕ) (small : (c : Class) → cost_of cos
       let d = behind-after at in
       let e = l.4 in
       let f = l.7 in
-      let g = region-after body l.5 in
-      let h = behind-after (to body) in
       let x = small class.Next in
       let y = small class.Drop in
-      (omega (arith, u, v, a, c, d, e, f, g, h, x, t), omega (arith, u, v, b, d, e, f, g, h, x, y), omega (arith, v, d, e, f, g, h, x))
+      (omega (arith, u, v, a, c, d, e, f, x, t), omega (arith, u, v, b, d, e, x, y), omega (arith, v, d, e, x))
 
   plain-most : (p m : ℕ) (body : Region) (q : ℕ) → IsLaid image (Repeated p m body q) → through image costs body ≤ region_most image body →
-      (plain_weight image costs body ≤ words_most (behind image p) q + region_most image body) × (cost_of costs class.Next ≤ words_most (behind image p) q + region_most image body)
+      (plain_weight image costs body ≤ turn_most image p body q (region_most image body)) × (cost_of costs class.Next ≤ words_most (behind image p) (from body))
   plain-most p m body q l t =
       let c = unit-most (to body) (cost_of costs class.Jump) (small class.Jump) in
       let e = l.2 in
       let f = l.5 in
-      let g = region-after body l.3 in
-      let h = behind-after (to body) in
       let x = small class.Next in
-      (omega (arith, c, e, f, g, h, x, t), omega (arith, e, f, g, h, x))
+      (omega (arith, c, e, f, x, t), omega (arith, e, x))
 
   -- the dearest way
   pub through-most : (r : Region) → IsLaid image r → through image costs r ≤ region_most image r
@@ -251,11 +247,11 @@ module _ (image : Parts) (costs : List ℕ) (small : (c : Class) → cost_of cos
   through-most (Counted p m n at body q) l =
       let t = through-most body l.5 in
       let w = weight-most p m n at body q l t in
-      let turn = words_most (behind image p) (q + 1) + region_most image body in
+      let turn = turn_most image p body q (region_most image body) in
       let W = tested_weight image costs p n at body in
       let o = unit-most p (cost_of costs class.Loop) (small class.Loop) in
       let x = mul-less m W turn w.0 in
-      let e1 : (m + 3) * turn ≡ m * turn + turn + turn + turn = omega arith in
+      let e1 : suc m * turn ≡ m * turn + turn = omega arith in
       let e2 : suc m * W ≡ m * W + W = omega arith in
       let a = w.0 in
       let b = w.1 in
@@ -264,11 +260,11 @@ module _ (image : Parts) (costs : List ℕ) (small : (c : Class) → cost_of cos
   through-most (Repeated p m body q) l =
       let t = through-most body l.3 in
       let w = plain-most p m body q l t in
-      let turn = words_most (behind image p) q + region_most image body in
+      let turn = turn_most image p body q (region_most image body) in
       let W = plain_weight image costs body in
       let o = unit-most p (cost_of costs class.Loop) (small class.Loop) in
       let x = mul-less m W turn w.0 in
-      let e1 : (m + 3) * turn ≡ m * turn + turn + turn + turn = omega arith in
+      let e1 : suc m * turn ≡ m * turn + turn = omega arith in
       let e2 : suc m * W ≡ m * W + W = omega arith in
       let a = w.0 in
       let c = w.1 in
@@ -301,7 +297,7 @@ module _ (image : Parts) (costs : List ℕ) (small : (c : Class) → cost_of cos
       let X = passing image costs x J in
       let Y = passing image costs y V in
       let fJ = jumping-below (to x) M V f in
-      let m = a + (jw + M) + b in
+      let m = max (a + jw) b + M in
       let fX = are-wider (a + (jw + M)) m X (omega arith) (passing-below x (jw + M) J l.3 fJ) in
       let fY = are-wider (b + M) m Y (omega arith) (passing-below y M V l.6 f) in
       let T = branched image costs X Y in
@@ -327,18 +323,22 @@ module _ (image : Parts) (costs : List ℕ) (small : (c : Class) → cost_of cos
       let inner = inside (word_place image p) kind in
       let rb = region_most image body in
       let jw = (behind image (to body) - to body) * 255 in
-      let turn = words_most head (q + 1) + rb in
+      let turn = turn_most image p body q rb in
+      let out = words_most head (from body) + 255 in
       let B = region_most image (Counted p m n at body q) + M in
       let W = tested_weight image costs p n at body in
       let w = weight-most p m n at body q l (through-most body l.5) in
+      let w0 = w.0 in
+      let w1 = w.1 in
+      let w2 = w.2 in
       let N = at_next image costs p n at body V in
-      let fN : AreBelow (turn + M) N = λ view. next-below (cost_of costs class.Next) (leaving image costs p n at) W turn M (V view) (f view) w.2 w.1 in
+      let fN : AreBelow (out + M) N = λ view. next-below (cost_of costs class.Next) (leaving image costs p n at) W out M (V view) (f view) (omega (arith, w2)) w1 in
       let J = jumping image costs (to body) N in
-      let fJ = jumping-below (to body) (turn + M) N fN in
+      let fJ = jumping-below (to body) (out + M) N fN in
       let X = passing image costs body J in
       let D = after (cost_of costs class.Drop) V in
-      let mX = rb + (jw + (turn + M)) in
-      let fX = passing-below body (jw + (turn + M)) J l.5 fJ in
+      let mX = rb + (jw + (out + M)) in
+      let fX = passing-below body (jw + (out + M)) J l.5 fJ in
       let fD = are-after 255 M (cost_of costs class.Drop) (255 + M) V f (small class.Drop) (omega arith) in
       let i = behind-after (to body) in
       let g = l.7 in
@@ -348,62 +348,61 @@ module _ (image : Parts) (costs : List ℕ) (small : (c : Class) → cost_of cos
       let c = unit-most at 255 (omega arith) in
       let e = l.4 in
       let h = behind-after at in
-      let k = region-after body l.5 in
-      let e1 : (m + 3) * turn ≡ m * turn + turn + turn + turn = omega arith in
+      let e1 : suc m * turn ≡ m * turn + turn = omega arith in
       let e2 : suc m * W ≡ m * W + W = omega arith in
-      let less = mul-less m W turn w.0 in
-      let w0 = w.0 in
+      let less = mul-less m W turn w0 in
       let op = unit-most p (cost_of costs class.Loop) (small class.Loop) in
       let E = after (cost_of costs class.Loop + suc m * W) N in
-      let mE = cost_of costs class.Loop + suc m * W + (turn + M) in
+      let mE = cost_of costs class.Loop + suc m * W + (out + M) in
       let o = unit_lines image costs kind p E in
       let t = test_lines image costs inner (head + 1) n at T in
       let b = region_lines image costs inner body J in
       let j = jump_lines image costs inner (to body) N in
-      let wide : turn + turn + M ≤ B = omega (arith, e1) in
+      let wide : turn + (out + M) ≤ B = omega (arith, e1) in
+      let jump : jw ≤ words_most (to body) q = omega (arith, g) in
       all-append (Within B) (o ++ numbers.line inner N ∷ t ++ b ++ j) (numbers.line inner D ∷ [])
       (all-append (Within B) (o ++ numbers.line inner N ∷ t ++ b) j
       (all-append (Within B) (o ++ numbers.line inner N ∷ t) b
       (all-append (Within B) o (numbers.line inner N ∷ t)
-      (unit-within kind p mE B E (are-after (cost_of costs class.Loop + suc m * W) (turn + M) (cost_of costs class.Loop + suc m * W) mE N fN (omega arith) (omega arith)) (omega (arith, op, e1, e2, less, w0)))
-      (line-within inner B N (are-wider (turn + M) B N (omega (arith, wide)) fN), test-within inner (head + 1) n at (255 + mX) B T l.2 fT (omega (arith, v, c, e, g, h, i, k, wide))))
-      (all-wider mX B (omega (arith, v, e, g, h, i, k, wide)) b (region-within inner body (jw + (turn + M)) J l.5 fJ)))
-      (jump-within inner (to body) (turn + M) B N fN (omega (arith, v, e, g, h, i, k, wide))))
-      (line-within inner B D (are-wider (255 + M) B D (omega (arith, v, e, g, h, i, k, wide)) fD), tt)
+      (unit-within kind p mE B E (are-after (cost_of costs class.Loop + suc m * W) (out + M) (cost_of costs class.Loop + suc m * W) mE N fN (omega arith) (omega arith)) (omega (arith, op, e1, e2, less, w0)))
+      (line-within inner B N (are-wider (out + M) B N (omega (arith, wide)) fN), test-within inner (head + 1) n at (255 + mX) B T l.2 fT (omega (arith, v, c, e, h, jump, wide))))
+      (all-wider mX B (omega (arith, jump, wide)) b (region-within inner body (jw + (out + M)) J l.5 fJ)))
+      (jump-within inner (to body) (out + M) B N fN (omega (arith, jump, wide))))
+      (line-within inner B D (are-wider (255 + M) B D (omega (arith, wide)) fD), tt)
   region-within kind (Repeated p m body q) M V l f =
       let head = behind image p in
       let inner = inside (word_place image p) kind in
       let rb = region_most image body in
       let jw = (behind image (to body) - to body) * 255 in
-      let turn = words_most head q + rb in
+      let turn = turn_most image p body q rb in
+      let out = words_most head (from body) in
       let B = region_most image (Repeated p m body q) + M in
       let W = plain_weight image costs body in
       let w = plain-most p m body q l (through-most body l.3) in
       let w0 = w.0 in
       let w1 = w.1 in
       let N = after (cost_of costs class.Next) V in
-      let fN : AreBelow (turn + M) N = are-after turn M (cost_of costs class.Next) (turn + M) V f w1 (omega arith) in
+      let fN : AreBelow (out + M) N = are-after out M (cost_of costs class.Next) (out + M) V f w1 (omega arith) in
       let J = jumping image costs (to body) N in
-      let fJ = jumping-below (to body) (turn + M) N fN in
+      let fJ = jumping-below (to body) (out + M) N fN in
       let i = behind-after (to body) in
       let g = l.5 in
-      let e = l.2 in
-      let k = region-after body l.3 in
-      let e1 : (m + 3) * turn ≡ m * turn + turn + turn + turn = omega arith in
+      let e1 : suc m * turn ≡ m * turn + turn = omega arith in
       let e2 : suc m * W ≡ m * W + W = omega arith in
       let less = mul-less m W turn w0 in
       let op = unit-most p (cost_of costs class.Loop) (small class.Loop) in
       let E = after (cost_of costs class.Loop + suc m * W) N in
-      let mE = cost_of costs class.Loop + suc m * W + (turn + M) in
+      let mE = cost_of costs class.Loop + suc m * W + (out + M) in
       let o = unit_lines image costs kind p E in
       let b = region_lines image costs inner body J in
       let j = jump_lines image costs inner (to body) N in
-      let wide : turn + turn + M ≤ B = omega (arith, e1) in
+      let wide : turn + (out + M) ≤ B = omega (arith, e1) in
+      let jump : jw ≤ words_most (to body) q = omega (arith, g) in
       all-append (Within B) (o ++ numbers.line inner N ∷ b) j
       (all-append (Within B) o (numbers.line inner N ∷ b)
-      (unit-within kind p mE B E (are-after (cost_of costs class.Loop + suc m * W) (turn + M) (cost_of costs class.Loop + suc m * W) mE N fN (omega arith) (omega arith)) (omega (arith, op, e1, e2, less, w0)))
-      (line-within inner B N (are-wider (turn + M) B N (omega (arith, wide)) fN), all-wider (rb + (jw + (turn + M))) B (omega (arith, e, g, i, k, wide)) b (region-within inner body (jw + (turn + M)) J l.3 fJ)))
-      (jump-within inner (to body) (turn + M) B N fN (omega (arith, e, g, i, k, wide)))
+      (unit-within kind p mE B E (are-after (cost_of costs class.Loop + suc m * W) (out + M) (cost_of costs class.Loop + suc m * W) mE N fN (omega arith) (omega arith)) (omega (arith, op, e1, e2, less, w0)))
+      (line-within inner B N (are-wider (out + M) B N (omega (arith, wide)) fN), all-wider (rb + (jw + (out + M))) B (omega (arith, jump, wide)) b (region-within inner body (jw + (out + M)) J l.3 fJ)))
+      (jump-within inner (to body) (out + M) B N fN (omega (arith, jump, wide)))
   region-within kind (Calling p callee) M V l f =
       (line-within kind (region_most image (Calling p callee) + M) (passing image costs (Calling p callee) V) (passing-below (Calling p callee) M V l f), tt)
 
@@ -415,13 +414,13 @@ module _ (image : Parts) (costs : List ℕ) (small : (c : Class) → cost_of cos
   region-light (Counted p m n at body q) l =
       let w = weight-most p m n at body q l (through-most body l.5) in
       let w0 = w.0 in
-      let turn = words_most (behind image p) (q + 1) + region_most image body in
-      let e1 : (m + 3) * turn ≡ m * turn + turn + turn + turn = omega arith in
+      let turn = turn_most image p body q (region_most image body) in
+      let e1 : suc m * turn ≡ m * turn + turn = omega arith in
       (omega (arith, w0, e1), light-wider (region_most image body) (region_most image (Counted p m n at body q)) (region_weights image costs body) (omega (arith, e1)) (region-light body l.5))
   region-light (Repeated p m body q) l =
       let w = plain-most p m body q l (through-most body l.3) in
       let w0 = w.0 in
-      let turn = words_most (behind image p) q + region_most image body in
-      let e1 : (m + 3) * turn ≡ m * turn + turn + turn + turn = omega arith in
+      let turn = turn_most image p body q (region_most image body) in
+      let e1 : suc m * turn ≡ m * turn + turn = omega arith in
       (omega (arith, w0, e1), light-wider (region_most image body) (region_most image (Repeated p m body q)) (region_weights image costs body) (omega (arith, e1)) (region-light body l.3))
   region-light (Calling p callee) l = tt

@@ -37,7 +37,7 @@ use Rattle.tk_paths.proofs.Extracts.{append-one, length-last, Flagged, flagged-m
 use Rattle.tk_paths.proofs.TestWalks.{Answering, TWVal, TWGVal}
 
 -- a listed point's aborts stand in the table
-listed-below : (image : Parts) (points : List Point) (at s : ℕ) (a : List ℕ) → AllByRecursion (IsPoint image) points → is_listed points at s a ≡ true → AllBelow (length image.aborts) a
+pub listed-below : (image : Parts) (points : List Point) (at s : ℕ) (a : List ℕ) → AllByRecursion (IsPoint image) points → is_listed points at s a ≡ true → AllBelow (length image.aborts) a
 listed-below image points at s a h l =
     let p = any-passes (is_point at s a) points l in
     let x = three_parts (p.which.at == at) (p.which.slot == s) (same_numbers p.which.stack a) p.passes in
@@ -45,7 +45,7 @@ listed-below image points at s a h l =
     subst B (same-list p.which.stack a x.2) (all-among (IsPoint image) points p.which h p.among).3
 
 module _ (image : Parts) where
-  of-lines : (a : List ℕ) → AllBelow (length image.aborts) a → AreOfLines image (made image [] a)
+  pub of-lines : (a : List ℕ) → AllBelow (length image.aborts) a → AreOfLines image (made image [] a)
   of-lines [] h = tt
   of-lines (j ∷ a) h = let l = abort-there image.aborts j h.0 in (l.1 ∙ ap Some (sym l.2), of-lines a h.1)
 

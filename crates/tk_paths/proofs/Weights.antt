@@ -59,7 +59,7 @@ module _ (image : Parts) where
   half-after None p = omega arith
   half-after (Some u) p = omega arith
 
-  word-after : (p : ℕ) → p ≤ word_place image p
+  pub word-after : (p : ℕ) → p ≤ word_place image p
   word-after p = half-after (half image p) p
 
   pub units-after : (n p q : ℕ) → AreUnits image p n q → p ≤ q
@@ -139,20 +139,21 @@ module _ (image : Parts) where
       later-found : (xs ys : List (ℕ × ℕ)) → AreFound (xs ++ ys) → AreFound ys
       later-found xs ys h x k = h x (among-right x xs ys k)
 
-      pub region-weighed : (r : Region) → AreFound (region_weights image costs r) → AreWeighed image cert costs r
-      region-weighed (Words p n q) h = tt
-      region-weighed (Then x y) h = (region-weighed x (first-found (region_weights image costs x) (region_weights image costs y) h), region-weighed y (later-found (region_weights image costs x) (region_weights image costs y) h))
-      region-weighed (Choice p n at x y) h = (region-weighed x (first-found (region_weights image costs x) (region_weights image costs y) h), region-weighed y (later-found (region_weights image costs x) (region_weights image costs y) h))
-      region-weighed (Counted p m n at body q) h = (h (word_place image p, tested_weight image costs p n at body) (inl refl), region-weighed body (λ x k. h x (inr k)))
-      region-weighed (Repeated p m body q) h = (h (word_place image p, plain_weight image costs body) (inl refl), region-weighed body (λ x k. h x (inr k)))
-      region-weighed (Calling p callee) h = tt
+      module _ (find : ℕ → Option Region) where
+        pub region-weighed : (r : Region) → AreFound (region_weights image costs r) → AreWeighed image cert costs find r
+        region-weighed (Words p n q) h = tt
+        region-weighed (Then x y) h = (region-weighed x (first-found (region_weights image costs x) (region_weights image costs y) h), region-weighed y (later-found (region_weights image costs x) (region_weights image costs y) h))
+        region-weighed (Choice p n at x y) h = (region-weighed x (first-found (region_weights image costs x) (region_weights image costs y) h), region-weighed y (later-found (region_weights image costs x) (region_weights image costs y) h))
+        region-weighed (Counted p m n at body q) h = (h (word_place image p, tested_weight image costs p n at body) (inl refl), region-weighed body (λ x k. h x (inr k)))
+        region-weighed (Repeated p m body q) h = (h (word_place image p, plain_weight image costs body) (inl refl), region-weighed body (λ x k. h x (inr k)))
+        region-weighed (Calling p callee) h = tt
 
-      pub code-weighed : (code : Code) → AreFound (code_weights image costs code) → AreWeighedIn image cert costs code
-      code-weighed (Passed r) h = region-weighed r h
-      code-weighed (Sequence x y) h = (code-weighed x (first-found (code_weights image costs x) (code_weights image costs y) h), code-weighed y (later-found (code_weights image costs x) (code_weights image costs y) h))
-      code-weighed (Either p n at x y) h = (code-weighed x (first-found (code_weights image costs x) (code_weights image costs y) h), code-weighed y (later-found (code_weights image costs x) (code_weights image costs y) h))
-      code-weighed (Turns p n at body q) h = code-weighed body h
-      code-weighed (Forever body q) h = code-weighed body h
-      code-weighed (Resting p) h = tt
-      code-weighed (Forking p lo n) h = tt
-      code-weighed (Guarded p j body) h = code-weighed body h
+        pub code-weighed : (code : Code) → AreFound (code_weights image costs code) → AreWeighedIn image cert costs find code
+        code-weighed (Passed r) h = region-weighed r h
+        code-weighed (Sequence x y) h = (code-weighed x (first-found (code_weights image costs x) (code_weights image costs y) h), code-weighed y (later-found (code_weights image costs x) (code_weights image costs y) h))
+        code-weighed (Either p n at x y) h = (code-weighed x (first-found (code_weights image costs x) (code_weights image costs y) h), code-weighed y (later-found (code_weights image costs x) (code_weights image costs y) h))
+        code-weighed (Turns p n at body q) h = code-weighed body h
+        code-weighed (Forever body q) h = code-weighed body h
+        code-weighed (Resting p) h = tt
+        code-weighed (Forking p lo n) h = tt
+        code-weighed (Guarded p j body) h = code-weighed body h

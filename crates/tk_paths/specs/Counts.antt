@@ -1,5 +1,5 @@
 -- How many cycles the numbers of a program come to at most, told from its words alone: docs/bounds.md, "Programs".
-use Rattle.std.specs.Prelude.{◌≡◌, ℕ, zero, suc, ◌+◌, ◌-◌, ◌*◌, ◌≤◌, ◌==◌, max, if◌then◌else◌, List, [], ◌∷◌, length, slice_index_or, Option, Some}
+use Rattle.std.specs.Prelude.{◌≡◌, ℕ, zero, suc, ◌+◌, ◌-◌, ◌*◌, ◌≤◌, ◌==◌, max, if◌then◌else◌, List, [], ◌∷◌, length, slice_get, slice_index_or, Option, Some}
 use Rattle.std.specs.List.{AllByRecursion}
 use Rattle.pt_image.specs.declared.Point.{Point}
 use Rattle.pt_image.specs.declared.Parts.{Parts}
@@ -8,14 +8,17 @@ use Rattle.tk_cert.specs.declared.cert.Line.{Line}
 use Rattle.tk_cert.specs.declared.cert.Line.TheVariants.{Bare, Thread, Routine, Cond}
 use Rattle.tk_cert.specs.declared.cert.Walk.{Walk}
 use Rattle.tk_cert.specs.declared.cert.CertParts.{CertParts}
+use Rattle.tk_cert.specs.Form.{IsWalk, IsInForm}
 use Rattle.tk_bound.specs.declared.view.Side.{Side}
+use Rattle.tk_bound.specs.Sums.{resumed_most}
 use Rattle.tk_bound.specs.Shape.{children_at}
 use Rattle.tk_bound.specs.Acceptance.{resumed}
+use Rattle.tk_bound.specs.Walks.{most_cycles}
 use Rattle.mb_isa.specs.Costs.{IsCosts}
 use Rattle.pt_image.specs.Ranges.{IsImage}
 use Rattle.tk_paths.specs.Regions.{Region, Words, Then, Choice, Counted, Repeated, Calling, from, to, behind}
 use Rattle.tk_paths.specs.Codes.{Code, Passed, Sequence, Either, Turns, Forever, Resting, Forking, Guarded, entry, exit}
-use Rattle.tk_paths.specs.Programs.{Section, OfThread, OfRoutine, OfCondition, Unused, Program, IsProgram, certificate}
+use Rattle.tk_paths.specs.Programs.{Section, OfThread, OfRoutine, OfCondition, Unused, Program, IsProgram, starts_in, certificate}
 
 -- a number that is there is at most this
 abbrev pub Below : ℕ → Option ℕ → Type 0
@@ -44,16 +47,25 @@ abbrev pub total : (ℕ → ℕ) → ℕ → ℕ → ℕ
 total worth c zero = 0
 total worth c (suc n) = worth c + total worth (c + 1) n
 
+-- how often a word is passed at most on a way from a place of a code to its end or to a rest in it: once to the end of the body of a loop
+-- that the place is inside, once from the beginning of the loop, and once more where a rest leads behind one of at most eight aborts
+abbrev pub ways : ℕ
+ways = 10
+
 module _ (image : Parts) where
-  -- the way through a region, whichever it is; a bounded loop of m + 1 turns may be counted two turns too long
+  -- a whole turn of a bounded loop of these words, whose body comes to t
+  abbrev pub turn_most : ℕ → Region → ℕ → ℕ → ℕ
+  turn_most p body q t = words_most (behind image p) (from body) + t + words_most (to body) q
+
+  -- the way through a region, whichever it is
   abbrev pub region_most : Region → ℕ
   region_most (Words p n q) = words_most p q
   region_most (Then x y) = region_most x + region_most y
-  region_most (Choice p n at x y) = words_most p (from x) + region_most x + words_most (to x) (from y) + region_most y
+  region_most (Choice p n at x y) = words_most p (from x) + max (region_most x + words_most (to x) (from y)) (region_most y)
   region_most (Counted p m n at body q) =
-      words_most p (behind image p) + (m + 3) * (words_most (behind image p) (q + 1) + region_most body)
+      words_most p (behind image p) + suc m * turn_most p body q (region_most body) + (words_most (behind image p) (from body) + dearest)
   region_most (Repeated p m body q) =
-      words_most p (behind image p) + (m + 3) * (words_most (behind image p) q + region_most body)
+      words_most p (behind image p) + suc m * turn_most p body q (region_most body) + words_most (behind image p) (from body)
   region_most (Calling p callee) = region_most callee + 2 * dearest
 
   -- what slots start with, at most
@@ -62,24 +74,16 @@ module _ (image : Parts) where
     abbrev pub way_most : Code → ℕ
     way_most (Passed r) = region_most r
     way_most (Sequence x y) = way_most x + way_most y
-    way_most (Either p n at x y) = words_most p (entry x) + way_most x + words_most (exit x) (entry y) + way_most y
+    way_most (Either p n at x y) = words_most p (entry x) + max (way_most x + words_most (exit x) (entry y)) (way_most y)
     way_most (Turns p n at body q) = words_most p (entry body) + way_most body + words_most (exit body) q
     way_most (Forever body q) = way_most body + words_most (exit body) q
     way_most (Resting p) = dearest
     way_most (Forking p lo n) = dearest + total starts lo n
     way_most (Guarded p j body) = way_most body + 2 * dearest
 
-    -- from any place of it: from inside a loop a way may go on at the loop's beginning
+    -- from any place of it
     abbrev pub code_most : Code → ℕ
-    code_most (Passed r) = region_most r
-    code_most (Sequence x y) = code_most x + code_most y
-    code_most (Either p n at x y) = words_most p (entry x) + code_most x + words_most (exit x) (entry y) + code_most y
-    code_most (Turns p n at body q) =
-        words_most p (entry body) + code_most body + words_most (exit body) q + way_most (Turns p n at body q)
-    code_most (Forever body q) = code_most body + words_most (exit body) q + way_most (Forever body q)
-    code_most (Resting p) = dearest
-    code_most (Forking p lo n) = dearest + total starts lo n
-    code_most (Guarded p j body) = code_most body + 2 * dearest
+    code_most code = ways * way_most code
 
   -- what slots start with, from slot s on
   abbrev pub starts_most_from : ℕ → List Code → List ℕ
@@ -102,6 +106,15 @@ module _ (image : Parts) where
   greatest_most codes [] = 0
   greatest_most codes (x ∷ sections) = max (section_most codes x) (greatest_most codes sections)
 
+  -- the greatest of the conditions
+  abbrev pub condition_most : Section → ℕ
+  condition_most (OfCondition p n q) = words_most p q + dearest
+  condition_most other = 0
+
+  abbrev pub tests_most : List Section → ℕ
+  tests_most [] = 0
+  tests_most (x ∷ sections) = max (condition_most x) (tests_most sections)
+
   -- the greatest sum over the children of a slot's forks
   abbrev pub waited_most : (ℕ → ℕ) → ℕ → List Point → ℕ
   waited_most worth s [] = 0
@@ -116,7 +129,8 @@ module _ (image : Parts) where
     abbrev pub slots_most_from : ℕ → ℕ → List ℕ
     slots_most_from s zero = []
     slots_most_from s (suc n) =
-        (9 * place_most + waited_most (λ c. slice_index_or (slots_most_from (s + 1) n) (c - (s + 1)) 0) s image.forks)
+        (8 * tests_most program.sections + place_most
+        + waited_most (λ c. slice_index_or (slots_most_from (s + 1) n) (c - (s + 1)) 0) s image.forks)
         ∷ slots_most_from (s + 1) n
 
     abbrev pub slots_most : ℕ → ℕ
@@ -126,6 +140,7 @@ module _ (image : Parts) where
 pub record IsCounted (image : Parts) (program : Program) (costs : List ℕ) (cert : CertParts) : Type 0 where
   pub lines : AllByRecursion (Within (place_most image program)) cert.lines
   pub weights : AllByRecursion (λ (w : ℕ × ℕ). w.1 ≤ place_most image program) cert.weights
+  pub starts : (side : Side) (s : ℕ) → Below (starts_most image program.threads s) (starts_in image costs program.threads side s)
   pub slots : (s : ℕ) (side : Side) → Below (slots_most image program s) (resumed image cert costs side s)
   pub bound : cert.bound ≤ base_of image costs + max (starts_most image program.threads 0) (slots_most image program 0)
 
@@ -134,3 +149,45 @@ abbrev pub NumbersAreCounted : Type 0
 NumbersAreCounted =
     (image : Parts) (program : Program) (costs : List ℕ) (walk : Walk) → IsImage image → IsCosts costs → IsProgram image program →
     IsCounted image program costs (certificate image costs program walk)
+
+-- All counts are within what a tick may cost at most, so all numbers are, whatever the costs are.
+pub record AreSmall (image : Parts) (program : Program) : Type 0 where
+  pub places : place_most image program ≤ most_cycles
+  pub slots : (s : ℕ) → slots_most image program s ≤ most_cycles
+  pub bound : (costs : List ℕ) → IsCosts costs →
+      base_of image costs + max (starts_most image program.threads 0) (slots_most image program 0) ≤ most_cycles
+
+-- So the certificate, with any walk of its file's form, is within the ranges of the file.
+abbrev pub CertificatesAreInForm : Type 0
+CertificatesAreInForm =
+    (image : Parts) (program : Program) (costs : List ℕ) (walk : Walk) → IsImage image → IsCosts costs → IsProgram image program →
+    AreSmall image program → IsWalk walk → IsInForm (certificate image costs program walk)
+
+-- each fork of a code
+abbrev pub EachFork : (ℕ → ℕ → Type 0) → Code → Type 0
+EachFork P (Passed r) = Unit {0}
+EachFork P (Sequence x y) = EachFork P x × EachFork P y
+EachFork P (Either p n at x y) = EachFork P x × EachFork P y
+EachFork P (Turns p n at body q) = EachFork P body
+EachFork P (Forever body q) = EachFork P body
+EachFork P (Resting p) = Unit {0}
+EachFork P (Forking p lo n) = P lo n
+EachFork P (Guarded p j body) = EachFork P body
+
+-- No number of a certificate is greater than what a tick may cost at most, nor is what the children of a fork come to where each of
+-- them gives its greater number, as they start or as they are resumed.
+pub record HasSmallNumbers (image : Parts) (program : Program) (costs : List ℕ) (cert : CertParts) : Type 0 where
+  pub lines : AllByRecursion (Within most_cycles) cert.lines
+  pub weights : AllByRecursion (λ (w : ℕ × ℕ). w.1 ≤ most_cycles) cert.weights
+  pub started : (s : ℕ) (code : Code) → slice_get program.threads s ≡ Some code →
+      EachFork (λ lo n. resumed_most (starts_in image costs program.threads) lo n ≤ most_cycles) code
+  pub slots : (s : ℕ) (side : Side) → Below most_cycles (resumed image cert costs side s)
+  pub waits : AllByRecursion
+      (λ (p : Point). resumed_most (resumed image cert costs) ((children_at image p.at).0) ((children_at image p.at).1) ≤ most_cycles) image.forks
+  pub bound : cert.bound ≤ most_cycles
+
+-- Small counts make small numbers.
+abbrev pub SmallCountsAreKept : Type 0
+SmallCountsAreKept =
+    (image : Parts) (program : Program) (costs : List ℕ) (walk : Walk) → IsImage image → IsCosts costs → IsProgram image program →
+    AreSmall image program → HasSmallNumbers image program costs (certificate image costs program walk)

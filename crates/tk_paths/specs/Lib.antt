@@ -7,3 +7,6 @@ pub mod Codes
 pub mod Numbers
 pub mod Programs
 pub mod Counts
+pub mod Choices
+pub mod Dearest
+pub mod Trees

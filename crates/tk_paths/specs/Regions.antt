@@ -1,5 +1,5 @@
 -- Regions of code in which no slot rests, how they lie in an image, and what the dearest way through one costs: docs/bounds.md, "Regions".
-use Rattle.std.specs.Prelude.{◌≡◌, ℕ, ℤ, zero, suc, ◌+◌, ◌*◌, ◌≤◌, max, Bool, List, length, Option, Some, None}
+use Rattle.std.specs.Prelude.{◌≡◌, ℕ, ℤ, zero, suc, ◌+◌, ◌*◌, ◌≤◌, ◌++◌, nat_le, max, Bool, true, false, if◌then◌else◌, List, [], ◌∷◌, length, Option, Some, None}
 use Rattle.mb_isa.specs.declared.Class.{Class}
 use Rattle.mb_isa.specs.declared.Class.TheVariants as class
 use Rattle.mb_isa.specs.Costs.{cost_of}
@@ -63,6 +63,11 @@ counters_in (Calling p callee) = counters_in callee
 abbrev pub behind_half : Option ℤ → ℕ → ℕ
 behind_half None place = place
 behind_half (Some upper) place = place + 1
+
+-- so many times the same
+abbrev pub times : ℕ → List Bool → List Bool
+times zero choices = []
+times (suc k) choices = choices ++ times k choices
 
 module _ (image : Parts) where
   -- the upper half of the unit at a place, the place of its word, and the place behind it
@@ -158,15 +163,33 @@ module _ (image : Parts) where
     through (Repeated p m body q) = (extra p + cost class.Loop) + (suc m * plain_turn body (through body) + cost class.Next)
     through (Calling p callee) = cost class.Call + (through callee + cost class.Ret)
 
-    -- a slot's turn goes from a region's start to its end at this cost, wherever there is room for its links and counters
-    pub record Crossing (r : Region) (n : ℕ) : Type 0 where
-      pub choices : List Bool
+    -- Which way each of its branches goes then, in the order in which they come: a whole turn of a loop is not taken, and the
+    -- way out by a test is taken.
+    abbrev pub dearest_way : Region → List Bool
+    dearest_way (Words p n q) = []
+    dearest_way (Then x y) = dearest_way x ++ dearest_way y
+    dearest_way (Choice p n at x y) =
+        if nat_le (cost class.Untaken + (through x + (extra (to x) + cost class.Jump))) (cost class.Taken + through y) then
+        true ∷ dearest_way y
+        else false ∷ dearest_way x
+    dearest_way (Counted p m n at body q) =
+        if nat_le (suc m * tested_turn p n at body (through body) + cost class.Next)
+        (m * tested_turn p n at body (through body) + leaving p n at) then
+        times m (false ∷ dearest_way body) ++ true ∷ []
+        else times (suc m) (false ∷ dearest_way body)
+    dearest_way (Repeated p m body q) = times (suc m) (dearest_way body)
+    dearest_way (Calling p callee) = dearest_way callee
+
+    -- a slot's turn goes from a region's start to its end by these choices at this cost, wherever there is room for its links
+    -- and counters
+    pub record Crossing (r : Region) (choices : List Bool) (n : ℕ) : Type 0 where
       pub leads : (s : ℕ) (u : State) → length u.links + links_in r ≤ 16 → length u.counters + counters_in r ≤ 136 →
           Leads image costs (goes (Turn s) (from r) u) choices n (goes (Turn s) (to r) u)
 
 -- A region that lies in an image is crossed at the cost of its dearest way.
 abbrev pub RegionsAreCrossed : Type 0
-RegionsAreCrossed = (image : Parts) (costs : List ℕ) (r : Region) → IsLaid image r → Crossing image costs r (through image costs r)
+RegionsAreCrossed =
+    (image : Parts) (costs : List ℕ) (r : Region) → IsLaid image r → Crossing image costs r (dearest_way image costs r) (through image costs r)
 
 -- So it is a passage, where it has a word and the machine has room for it.
 abbrev pub RegionsArePassages : Type 0

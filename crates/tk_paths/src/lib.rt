@@ -5,15 +5,21 @@
 //! the worst.
 //!
 //! Read `Passages`, `Reached`, `Tight`, `Regions`, `Greatest`, `Codes`, `Numbers`, `Programs` and `Counts` in `specs/` in this order;
-//! `docs/bounds.md`, "Tight certificates" to "Programs", says the same in words. The functions below do nothing: their contracts are
+//! `docs/bounds.md`, "Tight certificates" to "Programs", says the same in words. A `Program` is one
+//! in memory, and `specs/Trees.antt` says which program of the definition it is. The functions below do nothing: their contracts are
 //! the theorems.
 #![tactic(auto)]
+
+mod trees;
 
 ghost use Rattle.tk_paths.specs.Tight.{TightIsWorst};
 ghost use Rattle.tk_paths.specs.Greatest.{BeginningsAreCovered, GreatestIsWorst, RestsAreCovered};
 ghost use Rattle.tk_paths.specs.Regions.{RegionsAreCrossed, RegionsArePassages};
 ghost use Rattle.tk_paths.specs.Programs.{ProgramBoundsAreWorst, ProgramsAreAccepted};
-ghost use Rattle.tk_paths.specs.Counts.{NumbersAreCounted};
+ghost use Rattle.tk_paths.specs.Counts.{CertificatesAreInForm, NumbersAreCounted, SmallCountsAreKept};
+ghost use Rattle.tk_paths.specs.Dearest.{WalksAreInForm, WalksCostTheBound};
+
+pub use trees::{Code, Program, Region, Section};
 
 /// The bound of a certificate that is accepted and tight is the worst of its image: some free tick costs just as much, and
 /// none costs more.
@@ -21,8 +27,8 @@ pub fn a_tight_bound_is_worst()
     ensures { TightIsWorst }
 {}
 
-/// A region of code in which no slot rests is crossed at the cost of its dearest way, whatever is round it: its loops turn as
-/// often as they say, and its routines return.
+/// A region of code in which no slot rests is crossed at the cost of its dearest way, by that way's choices, whatever is round
+/// it: its loops turn as often as they say, and its routines return.
 pub fn a_region_is_crossed()
     ensures { RegionsAreCrossed }
 {}
@@ -58,8 +64,30 @@ pub fn a_program_bound_is_worst()
     ensures { ProgramBoundsAreWorst }
 {}
 
+/// And the walk that is told of it costs just that bound: which slots are where as its tick begins, what the conditions answer, and
+/// which way each branch goes.
+pub fn a_program_walk_costs_the_bound()
+    ensures { WalksCostTheBound }
+{}
+
+/// That walk is within the ranges of a certificate's file: its states have places of the code, and it has no more choices than it
+/// costs.
+pub fn a_program_walk_is_in_form()
+    ensures { WalksAreInForm }
+{}
+
 /// And no number of it is greater than a count of the program's words: so the certificate can be written down, and the bound is
 /// within what a walk may cost, where these counts are small enough.
 pub fn a_program_is_counted()
     ensures { NumbersAreCounted }
+{}
+
+/// So where the counts are small enough the certificate, with any walk of the file's form, is within the ranges of its file.
+pub fn a_small_program_is_in_form()
+    ensures { CertificatesAreInForm }
+{}
+
+/// And no number is greater than 1,000,000,000,000, nor is what the children of a fork come to.
+pub fn a_small_program_has_small_numbers()
+    ensures { SmallCountsAreKept }
 {}

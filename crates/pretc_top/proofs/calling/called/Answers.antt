@@ -7,6 +7,7 @@ use Rattle.pretc_top.specs.Named.{named}
 use Rattle.pretc_top.specs.Outside.{outside}
 use Rattle.pretc_top.specs.Comes.{Comes, ends, no_command}
 use Rattle.pretc_top.proofs.Called.{check_comes, print_comes, gen_comes, rules_comes}
+use Rattle.pretc_top.proofs.Jobs.{job_comes}
 use Rattle.pretc_top.proofs.calling.called.Goals as goal
 
 pub returns-in-None : goal.returns-in-None
@@ -76,3 +77,20 @@ returns-in-Some-Exec g c =
     (outside (g.H.Shelf.told c.args.shelf.now) (g.I.Source.told c.args.input.now) (g.O.Sink.told c.args.out.now))
     (outside (g.H.Shelf.told c.exec.new.shelf) (g.I.Source.told c.exec.new.input) (g.O.Sink.told c.exec.new.out)) c.exec.result in
     record { comes = subst P (sym (ap (option_map named) (c.in-Some-Exec.is ∙ ap Some c.in-Some-Exec.field-0-is)) ∙ c.command_of.ensures) c.exec.ensures.comes }
+
+pub returns-in-Some-Run : goal.returns-in-Some-Run
+returns-in-Some-Run g c =
+    let P : Option (Command (List ℕ)) → Type 0 = λ command. Comes command
+    (outside (g.H.Shelf.told c.args.shelf.now) (g.I.Source.told c.args.input.now) (g.O.Sink.told c.args.out.now))
+    (outside (g.H.Shelf.told c.carry_out.new.shelf) (g.I.Source.told c.carry_out.new.input) (g.O.Sink.told c.carry_out.new.out)) c.carry_out.result in
+    record { comes = subst P (sym (ap (option_map named) (c.in-Some-Run.is ∙ ap Some c.in-Some-Run.field-0-is)) ∙ c.command_of.ensures) c.carry_out.ensures.comes }
+
+pub returns-in-Some-Job : goal.returns-in-Some-Job
+returns-in-Some-Job g c =
+    let P : Option (Command (List ℕ)) → Type 0 = λ command. Comes command
+    (outside (g.H.Shelf.told c.args.shelf.now) (g.I.Source.told c.args.input.now) (g.O.Sink.told c.args.out.now))
+    (outside (g.H.Shelf.told c.args.shelf.now) (g.I.Source.told c.args.input.now) (g.O.Sink.told c.job.new.out)) c.job.result in
+    record {
+      comes = subst P (sym (ap (option_map named) (c.in-Some-Job.is ∙ ap Some c.in-Some-Job.field-0-is)) ∙ c.command_of.ensures)
+          (job_comes _ _ _ _ _ _ _ refl c.job.ensures.concludes);
+    }

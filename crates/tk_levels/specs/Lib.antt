@@ -1,0 +1,4 @@
+pub mod Faults
+pub mod Made
+pub mod Levels
+pub mod Kinds

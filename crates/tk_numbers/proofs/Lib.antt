@@ -1,0 +1,5 @@
+pub mod Values
+pub mod Straight
+pub mod LoopNumbers
+pub mod Tests
+pub mod Lines

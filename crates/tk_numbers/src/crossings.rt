@@ -1,0 +1,111 @@
+//! What it costs to cross a region, from what it costs to cross those that it is made of.
+
+ghost use Rattle.std.specs.Prelude.{◌≡◌, ◌+◌, ◌*◌, suc, max, IfOk};
+ghost use Rattle.mb_isa.specs.declared.Class.TheVariants.{Jump, Taken, Untaken, Loop, Next, Call, Ret};
+ghost use Rattle.tk_paths.specs.Regions.{cost, extra, to, units_cost, tested_loop, plain_turn};
+ghost use Rattle.tk_paths.specs.Trees.{read_region};
+ghost use Rattle.tk_numbers.specs.Charges.{routines_in};
+
+use crate::charges::extra;
+use crate::turns::{jump_cost, leaving, plain_turn, tested_turn, testing_cost};
+use mb_isa::{Class, Costs};
+use pt_image::Image;
+use tk_levels::{Fault, product, sum};
+use tk_paths::{Region, Section};
+
+/// The dearer side of a choice, whose sides cost so much.
+pub fn choice_cost(
+    image: &Image,
+    costs: &Costs,
+    from: u32,
+    count: u32,
+    branch: u32,
+    jump: usize,
+    untaken: u64,
+    taken: u64,
+) -> Result<u64, Fault>
+    ensures { IfOk result (λ n. n ≡
+        (units_cost image.now costs.now from count + extra image.now costs.now branch)
+        + max (cost image.now costs.now Untaken + (untaken + (extra image.now costs.now jump + cost image.now costs.now Jump)))
+        (cost image.now costs.now Taken + taken)) }
+{
+    let back = sum(untaken, jump_cost(image, costs, jump))?;
+    let first = sum(costs.cost(Class::Untaken), back)?;
+    let second = sum(costs.cost(Class::Taken), taken)?;
+    let test = testing_cost(image, costs, from as usize, count, branch)?;
+    sum(test, first.max(second))
+}
+
+// All turns of a loop with a test, or one turn less and the way out by the test.
+fn tested_loop(
+    image: &Image,
+    costs: &Costs,
+    before: &[Section],
+    from: u32,
+    turns: u32,
+    count: u32,
+    branch: u32,
+    body: &Region,
+    through: u64,
+) -> Result<u64, Fault>
+    ensures { IfOk result (λ n. n ≡ tested_loop image.now costs.now from turns count branch (read_region (routines_in before.now) body.now) through) }
+{
+    let turn = tested_turn(image, costs, before, from, count, branch, body, through)?;
+    let all = product(u64::from(turns) + 1, turn)?;
+    let used = sum(all, costs.cost(Class::Next))?;
+    let fewer = product(u64::from(turns), turn)?;
+    let left = sum(fewer, leaving(image, costs, from, count, branch)?)?;
+    Ok(used.max(left))
+}
+
+/// A loop with a test, whose body costs so much.
+pub fn counted_cost(
+    image: &Image,
+    costs: &Costs,
+    before: &[Section],
+    from: u32,
+    turns: u32,
+    count: u32,
+    branch: u32,
+    body: &Region,
+    through: u64,
+) -> Result<u64, Fault>
+    ensures { IfOk result (λ n. n ≡ (extra image.now costs.now from + cost image.now costs.now Loop)
+        + tested_loop image.now costs.now from turns count branch (read_region (routines_in before.now) body.now) through) }
+{
+    let opening = extra(image, costs, from as usize) + costs.cost(Class::Loop);
+    let turning = tested_loop(
+        image, costs, before, from, turns, count, branch, body, through,
+    )?;
+    sum(opening, turning)
+}
+
+/// A loop without one.
+pub fn repeated_cost(
+    image: &Image,
+    costs: &Costs,
+    before: &[Section],
+    from: u32,
+    turns: u32,
+    body: &Region,
+    through: u64,
+) -> Result<u64, Fault>
+    ensures { IfOk result (λ n. n ≡ (extra image.now costs.now from + cost image.now costs.now Loop)
+        + (suc turns * plain_turn image.now costs.now (read_region (routines_in before.now) body.now) through + cost image.now costs.now Next)) }
+{
+    let opening = extra(image, costs, from as usize) + costs.cost(Class::Loop);
+    let turn = plain_turn(image, costs, before, body, through)?;
+    let all = product(u64::from(turns) + 1, turn)?;
+    sum(opening, sum(all, costs.cost(Class::Next))?)
+}
+
+/// A call of a routine of this cost.
+pub fn calling_cost(image: &Image, costs: &Costs, routine: u64) -> Result<u64, Fault>
+    ensures { IfOk result (λ n. n ≡ cost image.now costs.now Call + (routine + cost image.now costs.now Ret)) }
+{
+    let _image = image;
+    sum(
+        costs.cost(Class::Call),
+        sum(routine, costs.cost(Class::Ret))?,
+    )
+}

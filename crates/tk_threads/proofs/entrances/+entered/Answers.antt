@@ -1,0 +1,169 @@
+use Rattle.std.proofs.Common.{◌≡◌, ◌≤◌, ◌++◌, List, [], ◌∷◌, drop, length, map, sym, ap, ◌∙◌, arith, append_assoc}
+use mathlib.Core.Path.{ap₂}
+use Rattle.std.proofs.lemmas.List.{drop_all}
+use Rattle.mb_isa.specs.declared.Class.TheVariants as class
+use Rattle.tk_paths.specs.declared.trees.Code.{Code as Kept}
+use Rattle.tk_paths.specs.Codes.{Code, Either, Turns, Forever, Resting, Forking, Guarded}
+use Rattle.tk_paths.specs.Numbers.{after, entered, code_lines, code_weights}
+use Rattle.tk_paths.specs.Programs.{pair_from}
+use Rattle.tk_paths.specs.Trees.{read_code, codes_from}
+use Rattle.tk_paths.proofs.Readings.{read-Sequence, read-Either, read-Turns, read-Forever, read-Resting, read-Forking, read-Guarded}
+use Rattle.tk_numbers.specs.Charges.{routines_in}
+use Rattle.tk_levels.specs.Levels.{numbers_of}
+use Rattle.tk_threads.specs.Codes.{entered_all, lines_all, weights_all}
+use Rattle.tk_threads.proofs.EntranceLaws.{front, pausing-is, forking-is-entered, entered-all, entered-either, entered-turns, entered-guarded}
+use Rattle.tk_threads.proofs.entrances.+entered.Goals as goal
+
+pub loop-rest-init : goal.loop-rest-init
+loop-rest-init t c =
+    let R = routines_in c.args.before.now in
+    let I = c.args.image.now in
+    let K = c.args.costs.now in
+    let S = pair_from c.args.first c.args.starts.now in
+    let A = c.args.aborts.now in
+    let V = numbers_of c.args.behind.now in
+    let codes = c.as_slice-codes.result.now in
+    let none : drop (length codes) codes ≡ [] = drop_all (length codes) codes (omega arith) in
+    record {
+      within = omega arith;
+      numbers = c.in_ok-levels-in-Sequence.ensures ∙ ap (λ (cs : List Kept). entered_all I K S A (map (read_code R) cs) V) (sym none);
+    }
+
+pub loop-rest-preserved : goal.loop-rest-preserved
+loop-rest-preserved t c =
+    let R = routines_in c.args.before.now in
+    let I = c.args.image.now in
+    let K = c.args.costs.now in
+    let S = pair_from c.args.first c.args.starts.now in
+    let A = c.args.aborts.now in
+    let V = numbers_of c.args.behind.now in
+    let l = c.loop-rest in
+    let codes = c.as_slice-codes.result.now in
+    let part = c.index-codes-rest.result in
+    let within = l.invariant.within in
+    let some : 1 ≤ l.rest = omega arith in
+    let one = front codes l.rest part some within c.index-codes-rest.is in
+    record {
+      within = omega arith;
+      numbers =
+          c.in_ok-levels-in-Sequence-2.ensures ∙ ap (entered I K S A (read_code R part)) l.invariant.numbers
+          ∙ ap (λ (cs : List Kept). entered_all I K S A (map (read_code R) cs) V) (sym one);
+    }
+
+pub returns-after-loop-rest : goal.returns-after-loop-rest
+returns-after-loop-rest t c =
+    let R = routines_in c.args.before.now in
+    let I = c.args.image.now in
+    let K = c.args.costs.now in
+    let S = pair_from c.args.first c.args.starts.now in
+    let A = c.args.aborts.now in
+    let V = numbers_of c.args.behind.now in
+    let l = c.loop-rest in
+    let e = c.in-Sequence in
+    let codes = c.as_slice-codes.result.now in
+    let zero : l.rest ≡ 0 = omega arith in
+    let is : read_code R c.args.code.now ≡ codes_from e.to (map (read_code R) codes) =
+    ap (read_code R) e.is ∙ read-Sequence R e.parts e.to
+    ∙ ap (λ (cs : List Kept). codes_from e.to (map (read_code R) cs)) (sym c.as_slice-codes.ensures) in
+    l.invariant.numbers
+    ∙ ap (λ i. entered_all I K S A (map (read_code R) (drop i codes)) V) zero
+    ∙ sym (entered-all I K S A e.to (map (read_code R) codes) V)
+    ∙ ap (λ (d : Code). entered I K S A d V) (sym is)
+
+pub returns-in_ok-levels-in-Either : goal.returns-in_ok-levels-in-Either
+returns-in_ok-levels-in-Either t c =
+    let R = routines_in c.args.before.now in
+    let I = c.args.image.now in
+    let K = c.args.costs.now in
+    let S = pair_from c.args.first c.args.starts.now in
+    let A = c.args.aborts.now in
+    let V = numbers_of c.args.behind.now in
+    let e = c.in-Either in
+    let x = read_code R c.get-near.result.now in
+    let y = read_code R c.get-far.result.now in
+    let is : read_code R c.args.code.now ≡ Either e.from e.count e.branch x y =
+    ap (read_code R) e.is ∙ read-Either R e.from e.count e.branch e.untaken e.taken
+    ∙ ap₂ (λ (a b : Kept). Either e.from e.count e.branch (read_code R a) (read_code R b)) (sym c.get-near.ensures) (sym c.get-far.ensures) in
+    c.in_ok-levels-in-Either.ensures
+    ∙ entered-either I K S A e.from e.count e.branch x y V (numbers_of c.in_ok-back-in-Either.back) (numbers_of c.in_ok-one-in-Either.one)
+    (numbers_of c.in_ok-other-in-Either.other) c.in_ok-back-in-Either.ensures c.in_ok-one-in-Either.ensures c.in_ok-other-in-Either.ensures
+    ∙ ap (λ (d : Code). entered I K S A d V) (sym is)
+
+pub returns-in_ok-levels-in-Turns : goal.returns-in_ok-levels-in-Turns
+returns-in_ok-levels-in-Turns t c =
+    let R = routines_in c.args.before.now in
+    let I = c.args.image.now in
+    let K = c.args.costs.now in
+    let S = pair_from c.args.first c.args.starts.now in
+    let A = c.args.aborts.now in
+    let V = numbers_of c.args.behind.now in
+    let e = c.in-Turns in
+    let x = read_code R c.get-inner.result.now in
+    let is : read_code R c.args.code.now ≡ Turns e.from e.count e.branch x e.to =
+    ap (read_code R) e.is ∙ read-Turns R e.from e.count e.branch e.body e.to
+    ∙ ap (λ (a : Kept). Turns e.from e.count e.branch (read_code R a) e.to) (sym c.get-inner.ensures) in
+    c.in_ok-levels-in-Turns.ensures
+    ∙ entered-turns I K S A e.from e.count e.branch x e.to V (numbers_of c.nothing-none.result) (numbers_of c.in_ok-one-in-Turns.one)
+    c.nothing-none.ensures c.in_ok-one-in-Turns.ensures
+    ∙ ap (λ (d : Code). entered I K S A d V) (sym is)
+
+pub returns-in_ok-levels-in-Forever : goal.returns-in_ok-levels-in-Forever
+returns-in_ok-levels-in-Forever t c =
+    let R = routines_in c.args.before.now in
+    let I = c.args.image.now in
+    let K = c.args.costs.now in
+    let S = pair_from c.args.first c.args.starts.now in
+    let A = c.args.aborts.now in
+    let V = numbers_of c.args.behind.now in
+    let e = c.in-Forever in
+    let x = read_code R c.get-inner-in-Forever.result.now in
+    let is : read_code R c.args.code.now ≡ Forever x e.to =
+    ap (read_code R) e.is ∙ read-Forever R e.body e.to ∙ ap (λ (a : Kept). Forever (read_code R a) e.to) (sym c.get-inner-in-Forever.ensures) in
+    c.in_ok-levels-in-Forever.ensures ∙ ap (entered I K S A x) c.nothing-none-in-Forever.ensures
+    ∙ ap (λ (d : Code). entered I K S A d V) (sym is)
+
+pub returns-in_ok-levels-in-Guarded : goal.returns-in_ok-levels-in-Guarded
+returns-in_ok-levels-in-Guarded t c =
+    let R = routines_in c.args.before.now in
+    let I = c.args.image.now in
+    let K = c.args.costs.now in
+    let S = pair_from c.args.first c.args.starts.now in
+    let A = c.args.aborts.now in
+    let V = numbers_of c.args.behind.now in
+    let e = c.in-Guarded in
+    let x = read_code R c.get-inner-in-Guarded.result.now in
+    let is : read_code R c.args.code.now ≡ Guarded e.place e.number x =
+    ap (read_code R) e.is ∙ read-Guarded R e.place e.number e.body
+    ∙ ap (λ (a : Kept). Guarded e.place e.number (read_code R a)) (sym c.get-inner-in-Guarded.ensures) in
+    c.in_ok-levels-in-Guarded.ensures
+    ∙ ap (λ n. after n (numbers_of c.in_ok-inside-in-Guarded.inside)) c.cost.ensures.cost
+    ∙ entered-guarded I K S A c.as_slice-all.result.now e.place e.number x V (numbers_of c.in_ok-last-in-Guarded.last)
+    (numbers_of c.in_ok-inside-in-Guarded.inside) (c.as_slice-all.ensures.value ∙ c.in_ok-deeper-in-Guarded.ensures)
+    c.in_ok-last-in-Guarded.ensures c.in_ok-inside-in-Guarded.ensures
+    ∙ ap (λ (d : Code). entered I K S A d V) (sym is)
+
+pub returns-in_ok-levels-in-Resting : goal.returns-in_ok-levels-in-Resting
+returns-in_ok-levels-in-Resting t c =
+    let R = routines_in c.args.before.now in
+    let I = c.args.image.now in
+    let K = c.args.costs.now in
+    let S = pair_from c.args.first c.args.starts.now in
+    let A = c.args.aborts.now in
+    let V = numbers_of c.args.behind.now in
+    let e = c.in-Resting in
+    let is : read_code R c.args.code.now ≡ Resting e.field-0 = ap (read_code R) e.is ∙ read-Resting R e.field-0 in
+    c.in_ok-levels-in-Resting.ensures ∙ pausing-is I K S A e.field-0 V
+    ∙ ap (λ (d : Code). entered I K S A d V) (sym is)
+
+pub returns-in_ok-levels-in-Forking : goal.returns-in_ok-levels-in-Forking
+returns-in_ok-levels-in-Forking t c =
+    let R = routines_in c.args.before.now in
+    let I = c.args.image.now in
+    let K = c.args.costs.now in
+    let S = pair_from c.args.first c.args.starts.now in
+    let A = c.args.aborts.now in
+    let V = numbers_of c.args.behind.now in
+    let e = c.in-Forking in
+    let is : read_code R c.args.code.now ≡ Forking e.place e.low e.count = ap (read_code R) e.is ∙ read-Forking R e.place e.low e.count in
+    c.in_ok-levels-in-Forking.ensures ∙ forking-is-entered I K S A e.place e.low e.count V
+    ∙ ap (λ (d : Code). entered I K S A d V) (sym is)

@@ -1,0 +1,12 @@
+use Rattle.std.proofs.Common.{arith}
+use Rattle.tk_paths.specs.Programs.{pair_from}
+use Rattle.tk_threads.specs.Sections.{lines_of, weights_of}
+use Rattle.tk_threads.proofs.Before.{flat_step}
+use Rattle.tk_threads.proofs.sections.made_of.Goals as goal
+
+pub loop-i-preserved : goal.loop-i-preserved
+loop-i-preserved c = record {
+  within = omega arith;
+  lines = flat_step (lines_of c.args.image.now c.args.costs.now (pair_from 0 c.args.starts.now)) c.args.sections.now c.loop-i.i _ _ _ _ (omega arith) (omega arith) c.index-sections-i.is c.in_ok-put_section.ensures.lines c.loop-i.invariant.lines;
+  weights = flat_step (weights_of c.args.image.now c.args.costs.now) c.args.sections.now c.loop-i.i _ _ _ _ (omega arith) (omega arith) c.index-sections-i.is c.in_ok-put_section.ensures.weights c.loop-i.invariant.weights;
+}

@@ -1,0 +1,20 @@
+//! The lines and weights of the codes of threads, and of all sections of an image's code; what slots start with.
+//!
+//! They are those of the definition (`Numbers` and `Programs` of `tk_paths`), told from the last place to the first, with the numbers with
+//! which slots start told first, from the highest slot down: `starts_of` gives these, and `made_of` all lines and weights. All sums are
+//! checked, so what comes out is exact, or `TooLarge`.
+#![tactic(auto)]
+
+mod codes;
+mod entrances;
+mod exits;
+mod places;
+mod rests;
+mod routines;
+mod sections;
+mod starts;
+mod sums;
+
+pub use routines::{all_links, values_of};
+pub use sections::made_of;
+pub use starts::starts_of;

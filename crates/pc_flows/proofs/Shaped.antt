@@ -20,29 +20,29 @@ pub is-shaped : (t : Typing) → IsTyped t → IsWithin t → (entrance : ℕ �
 is-shaped t typed within entrance = record {
   ends = is_known whole;
   told = λ g less. (
-    let h = there g less in
-    let r : Routine = routine t typed within h.0 in
-    let place : g ≡ 0 + g = omega arith in
-    ap (is_known whole) place ∙ known-from (program_of t).routines (aborts_of (program_of t).routines) whole [] (program_of t).routines g r refl (fit t typed within).routines (routine-there t typed within g h.0 h.1)
-    ∙ sym (body-same-end (program_of t).routines whole r) ∙ ap (can_end (is_known whole)) (sym (body-is t typed within g h.0 h.1))
-  );
+      let h = there g less in
+      let r : Routine = routine t typed within h.0 in
+      let place : g ≡ 0 + g = omega arith in
+      ap (is_known whole) place ∙ known-from (program_of t).routines (aborts_of (program_of t).routines) whole [] (program_of t).routines g r refl (fit t typed within).routines (routine-there t typed within g h.0 h.1)
+      ∙ sym (body-same-end (program_of t).routines whole r) ∙ ap (can_end (is_known whole)) (sym (body-is t typed within g h.0 h.1))
+      );
   lasts = λ g less. (
-    let h = there g less in
-    subst (IsLasting (is_known whole)) (sym (body-is t typed within g h.0 h.1))
-    (body-lasts (program_of t).routines whole (routine t typed within h.0) (kept t typed within g h.0 h.1))
-  );
+      let h = there g less in
+      subst (IsLasting (is_known whole)) (sym (body-is t typed within g h.0 h.1))
+      (body-lasts (program_of t).routines whole (routine t typed within h.0) (kept t typed within g h.0 h.1))
+      );
   loops = λ g less. (
-    let h = there g less in
-    subst (λ n. loops_in n ≤ 8) (sym (body-is t typed within g h.0 h.1))
-    (body-few-loops (program_of t).routines (routine t typed within h.0) (nests t typed within g h.0 h.1))
-  );
+      let h = there g less in
+      subst (λ n. loops_in n ≤ 8) (sym (body-is t typed within g h.0 h.1))
+      (body-few-loops (program_of t).routines (routine t typed within h.0) (nests t typed within g h.0 h.1))
+      );
   low = λ g is. (
-    let less = called-below t typed within entrance g is in
-    let h = some-there t.functions g less in
-    let low = low-height t typed within g h.0 h.1 (called-calm t typed within entrance g h.0 h.1 is) in
-    let some = some-height t typed within g h.0 h.1 in
-    (omega (arith, low, some), omega (arith, low))
-  );
+      let less = called-below t typed within entrance g is in
+      let h = some-there t.functions g less in
+      let low = low-height t typed within g h.0 h.1 (called-calm t typed within entrance g h.0 h.1 is) in
+      let some = some-height t typed within g h.0 h.1 in
+      (omega (arith, low, some), omega (arith, low))
+      );
 }
   where
     whole : List Bool

@@ -287,9 +287,363 @@ LAYERS = [
     ("the program", ["pretc"]),
 ]
 
-# ---- documents: a file, what stands there once after paths are rewritten, and what is to stand there
+# ---- documents, before names of crates are rewritten in them: a text that stands there once and the new one, or the beginning of
+# a line and the new line, or None where the line goes
 
-DOCS = []
+TEXTS = [
+    (
+        "docs/architecture.md",
+        """               pc_lex     pc_grammar,     pc_typed,             pc_rules,
+                          pc_parse        pc_names              pc_verdict
+""",
+        """               pc_grammar pc_grammar,     pc_grammar,           pc_rules
+                          pc_parse        pc_names
+""",
+    ),
+    (
+        "docs/architecture.md",
+        """    mb_step: the step and the tick, once, over what data decide
+    mb_isa: words and costs       mb_pfu: slots, aborts, links, counters
+""",
+        """    mb_isa: words, costs, and the step and the tick, once, over what data decide
+    mb_pfu: slots, aborts, links, counters
+""",
+    ),
+    (
+        "docs/architecture.md",
+        "- **The step and the tick** (`mb_step`) are",
+        "- **The step and the tick** (`Step` and `Tick` of `mb_isa`) are",
+    ),
+    (
+        "docs/architecture.md",
+        "- **What a certificate asks** (`tk_bound`) is",
+        "- **What a certificate asks** (`Shape` and `Acceptance` of `tk_paths`) is",
+    ),
+    ("docs/architecture.md", "the nodes (`nodes.rt`) and", "the nodes (`statements.rt`) and"),
+    (
+        "docs/architecture.md",
+        "The map of the `proofs` of `pc_lower`: `Values`",
+        "The map of its `proofs`: `Values`",
+    ),
+    (
+        "docs/architecture.md",
+        "2. **What a flow keeps** (`pc_flows`). The rules",
+        "2. **What a flow keeps** (`FlowLaws` of `pc_lower`). The rules",
+    ),
+    ("docs/architecture.md", "not too many (`Numbering` of `pc_region`), loops", "not too many (`Numbering`), loops"),
+    (
+        "docs/architecture.md",
+        "is that of the flow** (`pc_region`, below), and",
+        "is that of the flow** (`RegionLaws` of `pc_lower`, below), and",
+    ),
+    (
+        "docs/architecture.md",
+        "what the program means** (`pc_flows`, `DoesWhatIsMeant`)",
+        "what the program means** (`FlowLaws`, `DoesWhatIsMeant`)",
+    ),
+    (
+        "docs/architecture.md",
+        "(the laws that `pc_region` asks for)",
+        "(the laws that the region law of `pc_lower` asks for)",
+    ),
+    (
+        "docs/architecture.md",
+        "The map of `crates/pc_lower`, over `mb_step` and the flow of `pc_ir` alone: for any data",
+        "The map of the region law in `crates/pc_lower`, over the step of `mb_isa` and the definition of a flow alone: for any data",
+    ),
+    (
+        "docs/architecture.md",
+        "proofs `Steps`, `Calling`, `Paths`, `Loops`, `Groups`, `Going`)",
+        "proofs `Steps`, `Calling`, `Paths`, `RegionLoops`, `Groups`, `RegionGoing`)",
+    ),
+    (
+        "docs/architecture.md",
+        "5. **The whole program** (`Program`, `Earlier`, `Turns`)",
+        "5. **The whole program** (`Program`, `RegionProgram`, `Earlier`, `Turns`)",
+    ),
+    (
+        "docs/architecture.md",
+        "7. **The tick** (`Ticks`, `Words`, `Image`, `Configured`)",
+        "7. **The tick** (`Ticks`, `RegionWords`, `Image`, `Configured`)",
+    ),
+    (
+        "docs/architecture.md",
+        "8. **How dear** (`Bounds`, `Sizing`, `Threads`, `Limits`)",
+        "8. **How dear** (`Bounds`, `Sizing`, `RegionThreads`, `Limits`)",
+    ),
+    (
+        "docs/architecture.md",
+        "`check` of `tk_check` makes its answer of that and of `walk_cost`, and its clauses on ticks are the theorem of `tk_bound` at",
+        "`check` makes its answer of that and of `walk_cost`, and its clauses on ticks are the theorem of `tk_paths` at",
+    ),
+    (
+        "docs/architecture.md",
+        "The map of `crates/tk_paths/proofs`, over the demands and `mb_step` alone.",
+        "The map of the half of `crates/tk_paths/proofs` that is over the demands and the step of `mb_isa` alone.",
+    ),
+    ("docs/architecture.md", "each step of `mb_step` is one of its steps", "each step of `mb_isa` is one of its steps"),
+    (
+        "docs/architecture.md",
+        "The map of `crates/tk_paths/proofs`, over `tk_bound` and `mb_step`.",
+        "The map of the other half of `crates/tk_paths/proofs`, over the first and the step of `mb_isa`.",
+    ),
+    (
+        "docs/architecture.md",
+        "| tk_paths | pc_emit, pc_compile, tk_numbers, tk_threads, tk_slots, tk_analyse |",
+        "| tk_paths | pc_emit, pc_compile, tk_numbers, tk_threads, tk_analyse |",
+    ),
+    ("docs/architecture.md", "9. **A good place** (`Lines`, `Places`, `UnitLaws`)", "9. **A good place** (`Lines`, `PlaceLaws`, `UnitLaws`)"),
+    ("docs/architecture.md", "13. **The walk of a program** (`Steps`, `Pieces`", "13. **The walk of a program** (`OpenPlaces`, `Pieces`"),
+    (
+        "docs/DECISIONS.md",
+        "Line and number readers stand in `pt_lines` below both file crates. The real adapters stand in `pt_host`, so",
+        "Line and number readers stand in `pt_base` below both file crates. The real adapters stand in `pt_outside`, so",
+    ),
+    (
+        "docs/DECISIONS.md",
+        "They stand in `pc_lex`, which needs nothing of the trees.",
+        "They stand in `pc_grammar` below the trees, of which they need nothing.",
+    ),
+    (
+        "docs/DECISIONS.md",
+        "stands in one crate, `mb_words`, below the tick:",
+        "stands in `mb_isa`, below the machine's tick:",
+    ),
+    (
+        "docs/machine.md",
+        "The step and the tick are defined once, in the crate `mb_step`, over",
+        "The step and the tick are defined once, in the crate `mb_isa`, over",
+    ),
+    (
+        "docs/machine.md",
+        "The crate `mb_words` does each word, and `mb_core` the tick.",
+        "`mb_isa` does each word, and `mb_core` the tick.",
+    ),
+    (
+        "docs/working.md",
+        "of the front and of the meaning in `pc_cases`, of flows beside meanings in `pc_lower_cases`, of the unit and the machine in"
+        " `mb_cases`, of the words of steps in `pc_regs_cases`, of acceptance",
+        "of the front and of the meaning in `pc_cases`, of flows beside meanings and of the words of steps in `pc_lower_cases`, of the"
+        " unit and the machine in `mb_cases`, of acceptance",
+    ),
+    (
+        "docs/working.md",
+        "its step in `mb_step`'s one definition, what it does in `mb_words`, its arm",
+        "its step in the one definition there (`specs/Words.antt`), what it does (`src/store.rt`, `src/unit_words.rt`), its arm",
+    ),
+    (
+        "docs/working.md",
+        "(`class` and `class_of` of `mb_isa`; a new class is a key more in `tk_costs`)",
+        "(`class` and `class_of`; a new class is a key more in `src/costs.rt` of `tk_cert`)",
+    ),
+    (
+        "docs/working.md",
+        "What it is charged where it just goes on follows from its class (`tk_levels`, `tk_numbers`)",
+        "What it is charged where it just goes on follows from its class (`tk_numbers`)",
+    ),
+    ("docs/working.md", "must refuse, at most three a crate and in few crates", "must refuse, at most four a crate and in few crates"),
+    (
+        "docs/working.md",
+        "A field is empty where a crate has none.",
+        "The run was one of smaller crates; where one is now made of several, its numbers are the sums of theirs. A field is empty where"
+        " a crate has none.",
+    ),
+]
+
+LINES = [
+    # the crates
+    (
+        "docs/architecture.md",
+        "| pt_base | lists",
+        "| pt_base | lists of bytes and values, spans, rules, limits, operators; the first of some faults, by place and then by rule;"
+        " lines and numbers of files, each with one spelling | there |",
+    ),
+    ("docs/architecture.md", "| pt_lines | lines", None),
+    (
+        "docs/architecture.md",
+        "| pt_outside | shelf",
+        "| pt_outside | shelf, source, sink; in memory, firm, and over std's files and streams | there |",
+    ),
+    ("docs/architecture.md", "| pt_host | the same", None),
+    ("docs/architecture.md", "| pc_generator | the text", None),
+    ("docs/architecture.md", "| pc_lex | tokens of", None),
+    ("docs/architecture.md", "| pc_ast | trees", None),
+    (
+        "docs/architecture.md",
+        "| pc_grammar | which tokens spell which tree",
+        "| pc_grammar | tokens of a source, or its first fault; trees; which tokens spell which tree, and where others are refused;"
+        " programs with numbers for names, and the definition of the rules on names | there |",
+    ),
+    (
+        "docs/architecture.md",
+        "| pc_print | the canonical text of",
+        "| pc_print | the canonical text of a tree, and what it keeps; the text of programs of any number of threads, to try the rest on | there |",
+    ),
+    ("docs/architecture.md", "| pc_typed | programs with", None),
+    (
+        "docs/architecture.md",
+        "| pc_rules | weights",
+        "| pc_rules | weights, the rules on loops, the limits; the verdict on a source, phase after phase: size, tokens, grammar, names,"
+        " loops and limits | there |",
+    ),
+    ("docs/architecture.md", "| pc_verdict | the verdict", None),
+    (
+        "docs/architecture.md",
+        "| mb_isa | instruction words",
+        "| mb_isa | instruction words, what their numbers come to, classes and costs; the step and the tick over what data decide; the"
+        " machine's data, and choices; what each word does, to registers and memory and to the unit | there for every image |",
+    ),
+    ("docs/architecture.md", "| mb_step | the step", None),
+    (
+        "docs/architecture.md",
+        "| mb_words, mb_core | the machine",
+        "| mb_core | the machine: the image made ready to run, and the tick | there for every image |",
+    ),
+    ("docs/architecture.md", "| pc_ir | flow:", None),
+    (
+        "docs/architecture.md",
+        "| pc_lower | the flow of a program",
+        "| pc_lower | flow: a program in steps over temporaries, in nodes that pause, branch, turn, call, start threads and abort"
+        ' ("Regions" below); the flow of a program, which shows what the program means; when an image holds a flow, and that its ticks'
+        " are then those of the flow; which slot runs which function; that the flow of each accepted program can be laid out, and what"
+        " an image does that does what a program means | there: the definitions, their laws, and flows in memory |",
+    ),
+    ("docs/architecture.md", "| pc_region | when an", None),
+    ("docs/architecture.md", "| pc_flows | that the", None),
+    ("docs/architecture.md", "| tk_cert | the certificate", "| tk_cert | the certificate and its file; tables of costs | there |"),
+    ("docs/architecture.md", "| tk_bound | what a", None),
+    (
+        "docs/architecture.md",
+        "| tk_judge | the first of all",
+        "| tk_judge | the first of all demands that fails; the checker | there for every image and certificate |",
+    ),
+    ("docs/architecture.md", "| tk_check | the checker", None),
+    ("docs/architecture.md", "| tk_costs | tables", None),
+    (
+        "docs/architecture.md",
+        "| tk_paths | the paths behind",
+        "| tk_paths | what a certificate asks, and what a yes is worth; the paths behind a certificate's numbers, and when its bound is"
+        " the worst; the certificate of a program, and that it is accepted; sums that a certificate can hold, the numbers of a place at"
+        " all levels, lines, with what each slot is resumed, and the bound | there for every image and certificate |",
+    ),
+    ("docs/architecture.md", "| tk_levels | sums", None),
+    ("docs/architecture.md", "| tk_slots | with", None),
+    (
+        "docs/architecture.md",
+        "| pc_cases, pc_lower_cases | tests",
+        "| pc_cases | tests of the front over whole sources: trees, refusals, canonical texts; of the meaning over whole runs | there |",
+    ),
+    (
+        "docs/architecture.md",
+        "| pc_regs_cases | the words",
+        "| pc_lower_cases | tests of flows beside meanings; the words of each operator and of elements on the machine, beside what the"
+        " meaning of the operator gives | there |",
+    ),
+    # the borders
+    (
+        "docs/architecture.md",
+        "| pc_lex | pc_grammar, pc_parse |",
+        "| pc_grammar | pc_parse, pc_names, pc_rules, pc_print, pc_meaning | the tokens are the text's cut, and each is its slice; which"
+        " tokens spell a tree; a program, which keeps that the tokens of a source spell it, and whose spans rise; what the rules on names"
+        " say, and a program with numbers for names, which keeps that it breaks none, so that each number names what is asked of it |",
+    ),
+    ("docs/architecture.md", "| pc_grammar | pc_parse, pc_typed, pc_print |", None),
+    (
+        "docs/architecture.md",
+        "| pc_parse | pc_verdict |",
+        "| pc_parse | pc_rules, pretc_top | the program, or the place of S1 |",
+    ),
+    ("docs/architecture.md", "| pc_typed | pc_names, pc_rules, pc_meaning |", None),
+    (
+        "docs/architecture.md",
+        "| pc_rules | pc_verdict, pc_lower, pretc_top |",
+        "| pc_rules | pc_lower, pretc_top | nothing is broken, and how large the program is, or the first rule on loops or limit that is;"
+        " weight and passage; the program of a text, or the first rule of size, tokens and grammar that it breaks; a program that keeps"
+        " every rule, or the first rule that the text breaks |",
+    ),
+    ("docs/architecture.md", "| pc_verdict | pretc_top |", None),
+    (
+        "docs/architecture.md",
+        "| pc_meaning | pc_ir, pc_lower |",
+        "| pc_meaning | pc_lower | trees, and what they do from their start and go on to do |",
+    ),
+    ("docs/architecture.md", "| pc_ir | pc_lower |", None),
+    (
+        "docs/architecture.md",
+        "| pc_lower | pc_flows, pc_compile |",
+        "| pc_lower | pc_compile | the flow of a program: whatever the temporaries hold, it shows in each tick what the program means; its"
+        " words are within the weight, its temporaries 652 at most; it can be laid out and is within the limits; an image of it never"
+        " traps, its outputs are those of the meaning, each tick is charged at most 1,000,000,000,000, and its slots stand where the"
+        " program stands |",
+    ),
+    ("docs/architecture.md", "| pc_ir | pc_region |", None),
+    (
+        "docs/architecture.md",
+        "| mb_step | pc_region |",
+        "| mb_isa | pc_lower | the step and the tick over what data decide |",
+    ),
+    (
+        "docs/architecture.md",
+        "| pc_ir, mb_isa, mb_step | pc_regs |",
+        "| pc_lower, mb_isa | pc_regs | steps, tests and a flow in memory; what is asked of the words of steps and tests, and of the data"
+        " in a run (`Writing`, `RunLaws`); instruction words; registers and memory |",
+    ),
+    ("docs/architecture.md", "| pc_region | pc_regs |", None),
+    (
+        "docs/architecture.md",
+        "| pc_region | pc_flows, pc_emit |",
+        "| pc_lower | pc_emit | a flow in memory; each tick of an image that holds a flow does what the flow does in that tick, where"
+        " registers and memory do the steps and the tests |",
+    ),
+    ("docs/architecture.md", "| pc_flows | pc_compile |", None),
+    (
+        "docs/architecture.md",
+        "| mb_isa | mb_step, pc_compile |",
+        "| mb_isa | mb_core, pc_compile | `decode` undoes `encode`, and nothing else has a code |",
+    ),
+    (
+        "docs/architecture.md",
+        "| mb_pfu | mb_step, mb_words, mb_core, tk_walk |",
+        "| mb_pfu | mb_isa, mb_core, tk_walk | the slots as a tree, and its moves; each call is its move, or is refused and changes nothing |",
+    ),
+    (
+        "docs/architecture.md",
+        "| mb_step | mb_words, mb_core, tk_bound, tk_walk |",
+        "| mb_isa | mb_core, tk_paths, tk_walk | one step and one tick; each tick of the machine is followed by a free tick at the same"
+        " charges; each word does what the one step says, to registers and memory and to the unit |",
+    ),
+    ("docs/architecture.md", "| mb_words | mb_core, tk_walk |", None),
+    (
+        "docs/architecture.md",
+        "| mb_core | pc_compile, pretc_run |",
+        "| mb_core | pc_compile, pretc_run | `tick` is the tick of `mb_isa` over registers and memory, or its trap |",
+    ),
+    (
+        "docs/architecture.md",
+        "| tk_bound | tk_shape, tk_judge, tk_walk, tk_paths |",
+        "| tk_paths | tk_shape, tk_judge, tk_walk | the demands in the order in which they are looked for; where all hold, no tick passes"
+        " the bound |",
+    ),
+    ("docs/architecture.md", "| tk_judge | tk_check |", None),
+    ("docs/architecture.md", "| tk_walk | tk_check |", "| tk_walk | tk_judge, tk_analyse | the cost of a walk, or none |"),
+    (
+        "docs/architecture.md",
+        "| tk_levels, tk_numbers, tk_threads, tk_slots | tk_analyse |",
+        "| tk_paths, tk_numbers, tk_threads | tk_analyse | each number, line and weight is that of the definitions, or it is over what a"
+        " certificate can hold |",
+    ),
+    # what is kept of wrong bodies and tests
+    (
+        "docs/promises.md",
+        "- That the real adapters read",
+        "- That the real adapters read and write files and streams: one test each in `pt_outside`, and `checks/` through the built program.",
+    ),
+]
+
+# tables whose first cell names crates, in which rows of the same crates are joined
+JOINED = ["README.md"]
+# tables of numbers, of which rows of the same crate are added up
+ADDED = ["docs/working.md"]
 
 NEW = {old: m.into for m in MERGES for old in m.crates}
 GONE = [old for old in NEW if NEW[old] != old]
@@ -689,28 +1043,79 @@ def sizes(uses):
 
 # ---- documents
 
+def cells(line):
+    return [c.strip() for c in re.split(r"(?<!\\)\|", line.strip()[1:-1])]
+
+
+def once(words):
+    """A list of names, each once."""
+    return ", ".join(dict.fromkeys(words.split(", ")))
+
+
+def is_row(line):
+    return bool(re.match(r"\| (?:\w+, )*(?:pt|pc|mb|tk|pretc)\w* \|", line))
+
+
+def table_rows(name, text):
+    """Each crate once in a row's first and second cell; rows of the same crates joined, or added up."""
+    out, at = [], {}
+    for line in text.splitlines(keepends=True):
+        if not line.startswith("|"):
+            at = {}
+        if is_row(line):
+            parts = cells(line)
+            parts[0] = once(parts[0])
+            line = "| " + " | ".join(parts) + " |\n"
+            line = re.sub(r"\|  +\|", "|  |", line)
+            if name in JOINED + ADDED and parts[0] in at:
+                place = at[parts[0]]
+                before = cells(out[place])
+                if name in JOINED:
+                    before[1] += "; " + parts[1]
+                else:
+                    numbers = zip(before[1:], parts[1:])
+                    before[1:] = [str(int(a or 0) + int(b or 0)) if a or b else "" for a, b in numbers]
+                out[place] = re.sub(r"\|  +\|", "|  |", "| " + " | ".join(before) + " |\n")
+                continue
+            at[parts[0]] = len(out)
+        out.append(line)
+    return "".join(out)
+
+
 def documents():
     for path in tracked():
-        if not path.exists() or path.is_relative_to(CRATES) or path.name in ("merge.py", "crates.txt"):
+        if not path.exists() or path.is_relative_to(CRATES) or path.name in ("merge.py", "crates.txt") or path.suffix == ".patch":
             continue
         text = contents(path)
         if text is None:
             continue
-        old = text
+        name, old = path.relative_to(ROOT).as_posix(), text
 
         def file_of(found):
-            crate, kind, name = found[1], found[2], found[3]
-            return f"crates/{NEW[crate]}/{kind}/{renamed(crate, kind, name)}"
+            crate, kind, file = found[1], found[2], found[3]
+            return f"crates/{NEW[crate]}/{kind}/{renamed(crate, kind, file)}"
 
         text = re.sub(r"crates/(" + "|".join(NEW) + r")/(specs|src|proofs)/(\w+)", file_of, text)
-        for name, before, after in DOCS:
-            if path.relative_to(ROOT).as_posix() == name:
+        text = re.sub(r"crates/(" + "|".join(GONE) + r")\b", lambda f: f"crates/{NEW[f[1]]}", text)
+        for file, before, after in TEXTS:
+            if file == name:
                 if text.count(before) != 1:
                     OPEN.append(f"{name}: {text.count(before)} times: {before[:90]}")
                 else:
                     text = text.replace(before, after)
-        if path.suffix in (".md", ".sh", ".py", ".bash", "") and path.name != "HANDLES":
+        for file, before, after in LINES:
+            if file == name:
+                lines = text.splitlines(keepends=True)
+                found = [i for i, line in enumerate(lines) if line.startswith(before)]
+                if len(found) != 1:
+                    OPEN.append(f"{name}: {len(found)} lines: {before}")
+                else:
+                    lines[found[0]] = "" if after is None else after + "\n"
+                    text = "".join(lines)
+        if path.suffix in (".md", ".sh", ".py", ".bash", "") and name != "HANDLES":
             text = plain(text)
+        if path.suffix == ".md":
+            text = table_rows(name, text)
         if text != old:
             path.write_text(text)
 

@@ -3,7 +3,7 @@ use Rattle.std.specs.Int.{int_wrap}
 use Rattle.std.proofs.Common.{◌≡◌, pos, negsuc, [], ◌∷◌, refl, true, false}
 use Rattle.mb_pfu.specs.declared.TrapKind.TheVariants.{BadWord, OutOfCode, BadAddress, SlotBusy, TableFull, TableEmpty, WrongPlace, Late}
 use Rattle.pt_image.specs.declared.Parts.{Parts}
-use Rattle.mb_step.specs.Tick.{run}
+use Rattle.mb_isa.specs.Tick.{run}
 use Rattle.mb_cases.proofs.Seen.{Ended, Stopped, seen, loaded_unit, loaded_cells}
 
 image_0 : Parts

@@ -8,10 +8,10 @@ use Rattle.pt_image.specs.declared.Parts.{Parts}
 use Rattle.mb_pfu.specs.Rows.{is_ready}
 use Rattle.mb_pfu.specs.Tree.{slot_of}
 use Rattle.mb_pfu.specs.Unit.{State}
-use Rattle.mb_step.specs.Control.{Control, Who, Turn, Condition, goes, turns_on, tests_on, answered}
-use Rattle.mb_step.specs.Words.{Plan, Refuse, Go, Work, Branch, branched, plan_of, plan_decoded, plan_word}
-use Rattle.mb_step.specs.Step.{Rules, Stepped, Moves, Traps, samples_on, stepped, led as taken_to}
-use Rattle.mb_step.specs.Cells.{Cells, machine}
+use Rattle.mb_isa.specs.Control.{Control, Who, Turn, Condition, goes, turns_on, tests_on, answered}
+use Rattle.mb_isa.specs.Words.{Plan, Refuse, Go, Work, Branch, branched, plan_of, plan_decoded, plan_word}
+use Rattle.mb_isa.specs.Step.{Rules, Stepped, Moves, Traps, samples_on, stepped, led as taken_to}
+use Rattle.mb_isa.specs.Cells.{Cells, machine}
 use Rattle.mb_core.specs.declared.parts.To.{To}
 use Rattle.mb_core.specs.declared.parts.To.TheVariants.{On, Rest, Conclude}
 use Rattle.mb_core.specs.declared.parts.Went.{Went}

@@ -1,7 +1,7 @@
 -- What a machine is, and what its calls do.
 use Rattle.std.specs.Prelude.{◌≡◌, ℕ, ℤ, List, Option, Some, None, Result, Ok, Err}
 use Rattle.pt_image.specs.declared.Parts.{Parts}
-use Rattle.mb_step.specs.Run.{MachineState, Ticked, Ends, Trapped, loaded, tick_from}
+use Rattle.mb_isa.specs.Run.{MachineState, Ticked, Ends, Trapped, loaded, tick_from}
 use Rattle.mb_core.specs.declared.parts.Trap.{Trap}
 use Rattle.mb_core.specs.Going.{CoreState}
 

@@ -1,17 +1,16 @@
 ghost use Rattle.std.specs.Prelude.{◌≡◌, ◌≤◌, ◌<◌, ◌+◌, ◌^◌, ℕ, Option, IsTrue, is_some, Some, None, Ok, length};
 ghost use Rattle.mb_pfu.specs.Tree.{slot_of, next_test};
 ghost use Rattle.mb_isa.specs.declared.Instr.TheVariants as words;
-ghost use Rattle.mb_step.specs.Control.{wakes, answered};
-ghost use Rattle.mb_step.specs.Cells.{machine, word_at};
-ghost use Rattle.mb_step.specs.Tick.{begun};
+ghost use Rattle.mb_isa.specs.Control.{wakes, answered};
+ghost use Rattle.mb_isa.specs.Cells.{machine, word_at};
+ghost use Rattle.mb_isa.specs.Tick.{begun};
 ghost use Rattle.mb_core.specs.Going.{core_of, work_at, branch_at, branched_at, found_at, plan_there};
 ghost use Rattle.mb_core.specs.Going.{IsStep, IsWord, IsLed, IsTarget, IsTurn, Keeps};
 
 use crate::loading::Loaded;
 use crate::parts::{To, Went};
-use mb_isa::{Class, Costs, Instr, Reg, branch_place, class, immediate, takes_upper};
+use mb_isa::{Class, Costs, Instr, Reg, Store, branch_place, class, immediate, sample, takes_upper};
 use mb_pfu::{Slot, TrapKind, Unit};
-use mb_words::{Store, sample};
 use std::marker::Model;
 
 /// The registers and the memory, the unit, and the upper half that stands.
@@ -23,7 +22,7 @@ pub struct Core {
 }
 
 impl Model for Core {
-    ghost use Rattle.mb_step.specs.Tick.{begun};
+    ghost use Rattle.mb_isa.specs.Tick.{begun};
     ghost use Rattle.mb_core.specs.Going.{CoreState};
     ghost use Rattle.mb_pfu.specs.Stored.{state_code};
     ghost use Rattle.std.specs.Coded.{codes};

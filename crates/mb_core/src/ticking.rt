@@ -1,9 +1,9 @@
 ghost use Rattle.std.specs.Prelude.{◌≡◌, ◌≤◌, IfOk, IsTrue, is_some, is_ok, length, None, Some, Ok, if◌then◌else◌};
 ghost use Rattle.mb_isa.specs.Costs.{IsCosts};
 ghost use Rattle.mb_pfu.specs.Tree.{next_test};
-ghost use Rattle.mb_step.specs.Control.{turns_on, tests_on};
-ghost use Rattle.mb_step.specs.Step.{samples_on};
-ghost use Rattle.mb_step.specs.Cells.{machine, outputs_of};
+ghost use Rattle.mb_isa.specs.Control.{turns_on, tests_on};
+ghost use Rattle.mb_isa.specs.Step.{samples_on};
+ghost use Rattle.mb_isa.specs.Cells.{machine, outputs_of};
 ghost use Rattle.mb_core.specs.Going.{went, KeepsTurn};
 ghost use Rattle.mb_core.specs.Phases.{slot_in, place_in, control_of, moved, IsPhase, IsMoved, IsAdvance, IsAfterTurn, IsRun, IsTick};
 

@@ -2,17 +2,17 @@
 
 ghost use Rattle.std.specs.Prelude.{◌≡◌, ◌<◌, ◌+◌, ◌^◌, Some};
 ghost use Rattle.mb_isa.specs.declared.Instr.TheVariants as words;
-ghost use Rattle.mb_words.specs.Came.{came, IsStillReady};
+ghost use Rattle.mb_isa.specs.Came.{came, IsStillReady};
 ghost use Rattle.mb_core.specs.Going.{IsStep, IsWord, IsTurn, Keeps};
 
 use crate::core_state::Core;
 use crate::loading::Loaded;
 use crate::parts::{To, Went};
-use mb_isa::{Class, Costs, turns};
-use mb_pfu::TrapKind;
-use mb_words::{
-    abrt, call, drop_word, end, eot, fork_word, leave_word, loop_word, next, ret, stack_of,
+use mb_isa::{
+    Class, Costs, abrt, call, drop_word, end, eot, fork_word, leave_word, loop_word, next, ret,
+    stack_of, turns,
 };
+use mb_pfu::TrapKind;
 
 impl Core {
     // A unit word has been done, or refused.

@@ -4,3 +4,14 @@ pub mod Candidates
 pub mod Costs
 pub mod Classes
 pub mod Operands
+pub mod Control
+pub mod Words
+pub mod Step
+pub mod Tick
+pub mod Cells
+pub mod Run
+pub mod Free
+pub mod Follows
+pub mod Laws
+pub mod Doing
+pub mod Came

@@ -1,5 +1,5 @@
 use crate::sources::{nested, put_numbered};
-use pc_verdict::judged;
+use pc_rules::judged;
 use pt_base::{Refusal, Rule, Span, Text};
 use std::alloc::{AllocError, Global};
 use std::test::Fail;

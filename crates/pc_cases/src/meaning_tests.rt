@@ -1,7 +1,7 @@
-use pc_generator::generate;
+use pc_grammar::Typed;
 use pc_meaning::meaning_of;
-use pc_typed::Typed;
-use pc_verdict::judged;
+use pc_print::generate;
+use pc_rules::judged;
 use pt_base::{Many, Memory, Refusal, Text};
 use std::alloc::Global;
 use std::test::Fail;

@@ -1,7 +1,6 @@
-use pc_ast::{Expr, Goal, Stmt};
+use pc_grammar::{Expr, Function, Goal, Stmt, Typed};
 use pc_names::resolve;
-use pc_typed::{Function, Typed};
-use pc_verdict::source_of;
+use pc_rules::source_of;
 use pt_base::{Refusal, Text};
 use std::alloc::Global;
 use std::test::Fail;

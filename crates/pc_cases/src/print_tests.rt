@@ -1,5 +1,5 @@
 use pc_print::print;
-use pc_verdict::source_of;
+use pc_rules::source_of;
 use pt_base::{Memory, Refusal, Text};
 use std::alloc::Global;
 use std::test::Fail;

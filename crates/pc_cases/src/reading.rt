@@ -2,10 +2,10 @@
 
 use crate::shown;
 use crate::shown::Written;
-use pc_lex::{Token, Tokens, lex};
+use pc_grammar::{Token, Tokens, lex};
 use pc_parse::{Failure, whole_expression};
 use pc_print::put_expression;
-use pc_verdict::source_of;
+use pc_rules::source_of;
 use pt_base::{MOST_SOURCE_BYTES, Refusal, Rule, Span, Text};
 use std::alloc::Global;
 

@@ -1,6 +1,5 @@
-use pc_ast::{CellKind, Expr, Goal, Item, Stmt, Word};
-use pt_base::{BinOp, Memory, Span, UnOp};
-use pt_lines::put_number;
+use pc_grammar::{CellKind, Expr, Goal, Item, Stmt, Word};
+use pt_base::{BinOp, Memory, Span, UnOp, put_number};
 use std::alloc::Global;
 
 /// Bytes that are written one behind another, and whether there was no memory for some.

@@ -1,11 +1,11 @@
 -- What is known of the flow of an accepted program once it is lowered.
 use Rattle.std.proofs.Common.{◌≡◌}
-use Rattle.pc_typed.specs.Typing.{Typing}
-use Rattle.pc_typed.specs.Keeping.{IsTyped}
+use Rattle.pc_grammar.specs.Typing.{Typing}
+use Rattle.pc_grammar.specs.Keeping.{IsTyped}
 use Rattle.pc_rules.specs.Judging.{IsWithin}
-use Rattle.pc_ir.specs.Flow.{Flow}
+use Rattle.pc_lower.specs.Flow.{Flow}
 use Rattle.pc_lower.specs.Counts.{BodiesWithin, ConditionsWithin}
-use Rattle.pc_flows.specs.Placing.{typed_flow}
+use Rattle.pc_lower.specs.Placing.{typed_flow}
 
 pub record IsLowered (t : Typing) (f : Flow) : Type 0 where
   pub typed : IsTyped t

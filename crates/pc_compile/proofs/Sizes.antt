@@ -5,14 +5,14 @@ use Rattle.pt_base.specs.declared.UnOp.{UnOp}
 use Rattle.pt_base.specs.declared.UnOp.TheVariants.{Neg, Not, Flip}
 use Rattle.pt_base.specs.declared.BinOp.{BinOp}
 use Rattle.pt_base.specs.declared.BinOp.TheVariants.{Or, And, BitOr, BitXor, BitAnd, Equal, NotEqual, Less, LessEqual, Greater, GreaterEqual, ShiftLeft, ShiftRight, Add, Sub, Mul, Div, Rem}
-use Rattle.pc_ir.specs.declared.nodes.Step.{Step}
-use Rattle.pc_ir.specs.declared.nodes.Step.TheVariants.{Const as const, Load as load, Save as save, Unary as unary_step, Binary as binary_step, TakeElement as take_element, PutElement as put_element, Move as move}
-use Rattle.pc_ir.specs.declared.nodes.Test.{Test}
-use Rattle.pc_ir.specs.Flow.{Node, Nodes, straight, sequence, branch, turns, bounded, call, pause, fork, guard, no_nodes, and, Flow}
+use Rattle.pc_lower.specs.declared.nodes.Step.{Step}
+use Rattle.pc_lower.specs.declared.nodes.Step.TheVariants.{Const as const, Load as load, Save as save, Unary as unary_step, Binary as binary_step, TakeElement as take_element, PutElement as put_element, Move as move}
+use Rattle.pc_lower.specs.declared.nodes.Test.{Test}
+use Rattle.pc_lower.specs.Flow.{Node, Nodes, straight, sequence, branch, turns, bounded, call, pause, fork, guard, no_nodes, and, Flow}
 use Rattle.pc_lower.specs.Counts as lowered
 use Rattle.pc_lower.specs.Counts.{node_words, nodes_words, some_words, drop_words, bodies_words}
-use Rattle.pc_region.specs.Words.{Writing}
-use Rattle.pc_flows.specs.Few.{WritesFew}
+use Rattle.pc_lower.specs.Words.{Writing}
+use Rattle.pc_lower.specs.Few.{WritesFew}
 use Rattle.pc_regs.specs.declared.placement.Placement.{Placement}
 use Rattle.pc_regs.specs.Words.{writing_of}
 use Rattle.pc_regs.specs.Counts.{most_unary, most_binary, most_words, most_steps_words}

@@ -4,29 +4,29 @@ use Rattle.std.specs.Prelude.{slice_index_or}
 use Rattle.std.proofs.lemmas.List.{length-map}
 use Rattle.mb_isa.specs.Costs.{IsCosts}
 use Rattle.pt_image.specs.declared.image.Parts.{Parts}
-use Rattle.pc_typed.specs.Typing.{Typing}
-use Rattle.pc_typed.specs.Keeping.{IsTyped}
+use Rattle.pc_grammar.specs.Typing.{Typing}
+use Rattle.pc_grammar.specs.Keeping.{IsTyped}
 use Rattle.pc_rules.specs.Judging.{IsWithin}
 use Rattle.pc_meaning.specs.Programs.{program_of}
-use Rattle.pc_ir.specs.Flow.{Flow}
+use Rattle.pc_lower.specs.Flow.{Flow}
 use Rattle.pc_lower.specs.Counts.{BodiesWithin, ConditionsWithin}
-use Rattle.pc_region.specs.Laid.{Placing}
-use Rattle.pc_region.specs.Words.{Writing}
-use Rattle.pc_region.specs.Numbering.{slots_of, parent_of}
-use Rattle.pc_region.specs.Image.{IsImageOf}
-use Rattle.pc_region.specs.Runs.{RunLaws}
-use Rattle.pc_region.proofs.Sizing.{counts}
-use Rattle.pc_flows.specs.Placing.{typed_flow, placing_of}
-use Rattle.pc_flows.specs.Few.{WritesFew, sizes_for}
-use Rattle.pc_flows.specs.Meant.{DoesWhatIsMeant}
-use Rattle.pc_flows.proofs.Laid.{can-be-laid}
-use Rattle.pc_flows.proofs.Declared.{declared-words}
-use Rattle.pc_flows.proofs.Order.{flow-in-order}
-use Rattle.pc_flows.proofs.Program.{fit}
-use Rattle.pc_flows.proofs.Rooms.{keeps-cells, inputs-below, outputs-below}
-use Rattle.pc_flows.proofs.Within.{limits, words-less, inputs-few, outputs-few, declared-few}
-use Rattle.pc_flows.proofs.Whole.{does-what-is-meant}
-use Rattle.pc_region.specs.Laws.{Agree}
+use Rattle.pc_lower.specs.Laid.{Placing}
+use Rattle.pc_lower.specs.Words.{Writing}
+use Rattle.pc_lower.specs.Numbering.{slots_of, parent_of}
+use Rattle.pc_lower.specs.Image.{IsImageOf}
+use Rattle.pc_lower.specs.Runs.{RunLaws}
+use Rattle.pc_lower.proofs.Sizing.{counts}
+use Rattle.pc_lower.specs.Placing.{typed_flow, placing_of}
+use Rattle.pc_lower.specs.Few.{WritesFew, sizes_for}
+use Rattle.pc_lower.specs.Meant.{DoesWhatIsMeant}
+use Rattle.pc_lower.proofs.Laid.{can-be-laid}
+use Rattle.pc_lower.proofs.Declared.{declared-words}
+use Rattle.pc_lower.proofs.Order.{flow-in-order}
+use Rattle.pc_lower.proofs.FlowProgram.{fit}
+use Rattle.pc_lower.proofs.Rooms.{keeps-cells, inputs-below, outputs-below}
+use Rattle.pc_lower.proofs.Within.{limits, words-less, inputs-few, outputs-few, declared-few}
+use Rattle.pc_lower.proofs.FlowWhole.{does-what-is-meant}
+use Rattle.pc_lower.specs.RegionLaws.{Agree}
 use Rattle.pc_regs.specs.declared.placement.Placement.{Placement}
 use Rattle.pc_regs.specs.Placement.{memory_words, IsPlacement}
 use Rattle.pc_regs.specs.Words.{writing_of}
@@ -43,7 +43,7 @@ use Rattle.pc_emit.specs.Eots.{ListsAll}
 use Rattle.pc_compile.specs.Compiled.{Compiles}
 use Rattle.pc_compile.proofs.Lowered.{IsLowered}
 use Rattle.pc_compile.proofs.Written.{flow-written, temporaries-few}
-use Rattle.pc_flows.proofs.Numbers.{pauses-many, forks-many, aborts-many-are}
+use Rattle.pc_lower.proofs.Numbers.{pauses-many, forks-many, aborts-many-are}
 use Rattle.pc_compile.proofs.Sizes.{writes-few, code-less}
 
 -- of the flow of a program itself

@@ -3,12 +3,12 @@ use Rattle.std.specs.Prelude.{◌≡◌, length}
 use Rattle.pt_image.specs.declared.image.Parts.{Parts}
 use Rattle.pt_image.specs.Ranges.{IsImage, places_of}
 use Rattle.pt_image.specs.Form.{AreWords}
-use Rattle.pc_typed.specs.Typing.{Typing}
+use Rattle.pc_grammar.specs.Typing.{Typing}
 use Rattle.pc_meaning.specs.Programs.{spans_of, eots_step, pars_step, aborts_step, program_of}
-use Rattle.pc_region.specs.Numbering.{slots_of}
+use Rattle.pc_lower.specs.Numbering.{slots_of}
 use Rattle.pc_emit.specs.Eots.{eots_from}
-use Rattle.pc_flows.specs.Meant.{DoesWhatIsMeant}
-use Rattle.pc_flows.specs.Placing.{typed_flow}
+use Rattle.pc_lower.specs.Meant.{DoesWhatIsMeant}
+use Rattle.pc_lower.specs.Placing.{typed_flow}
 
 -- The image is within its ranges, so that its text is read back as this image; its inputs and outputs are the program's. It has a slot
 -- for each thread, and as many pauses, forks and abort lines as the text has `EOT`s, `PAR`s and aborts; a pause is listed at every

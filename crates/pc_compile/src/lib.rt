@@ -5,7 +5,7 @@
 //! and under every cost table; and the program beside it is the one that the image holds, no number of whose certificates is
 //! greater than 1,000,000,000,000. It is a composition: `lower` of `pc_lower` gives the flow, `assign` of `pc_regs` the places of
 //! its words, `emit` of `pc_emit` the image and `program` what it holds; `proofs/Whole.antt` joins their contracts and laws with
-//! those of `pc_flows`.
+//! those of `pc_lower`.
 #![tactic(auto)]
 
 ghost use Rattle.std.specs.Prelude.{IfOk};
@@ -19,9 +19,9 @@ use pc_emit::{
     a_flow_is_laid_out, a_flow_is_small, a_laid_flow_is_a_program, a_laid_flow_is_in_its_ranges,
     a_laid_flow_lists_all, emit, program,
 };
+use pc_grammar::Typed;
 use pc_lower::lower;
 use pc_regs::{assign, words_are_few, words_are_work, words_do_the_steps};
-use pc_typed::Typed;
 use pt_base::Memory;
 use pt_image::Image;
 use std::alloc::Global;

@@ -7,13 +7,13 @@ use Rattle.std.proofs.lemmas.Bool.Decides.{Decides-ltb}
 use Rattle.mb_isa.specs.declared.words.Instr.TheVariants.{Fork}
 use Rattle.pt_image.specs.declared.image.Point.{Point}
 use Rattle.pt_image.specs.declared.image.Parts.{Parts}
-use Rattle.pc_region.specs.Slots.{AreChildren}
-use Rattle.pc_region.proofs.Steps.{lt-true}
+use Rattle.pc_lower.specs.Slots.{AreChildren}
+use Rattle.pc_lower.proofs.Steps.{lt-true}
 use Rattle.tk_cert.specs.Demands.{Demand, shape_demand, AllHold}
-use Rattle.tk_bound.specs.Words.{instr_at}
-use Rattle.tk_bound.specs.Kinds.{points_at, places_of}
-use Rattle.tk_bound.specs.Shape.{children_in, children_at, meet, earlier, is_apart, apart}
-use Rattle.tk_bound.proofs.Lists.{IsAmong, all-among}
+use Rattle.tk_paths.specs.Words.{instr_at}
+use Rattle.tk_paths.specs.Kinds.{points_at, places_of}
+use Rattle.tk_paths.specs.Shape.{children_in, children_at, meet, earlier, is_apart, apart}
+use Rattle.tk_paths.proofs.Lists.{IsAmong, all-among}
 use Rattle.pc_emit.proofs.Lists.{all_append}
 use Rattle.pc_emit.proofs.Points.{AreSpread}
 

@@ -3,11 +3,11 @@ use Rattle.std.proofs.Common.{◌≡◌, ℕ, List, [], map, Some, None, slice_g
 use Rattle.std.proofs.lemmas.Option.{slice_get-map}
 use Rattle.std.specs.Prelude.{unwrap_or}
 use Rattle.std.specs.Option.{option_map}
-use Rattle.pc_ir.specs.declared.nodes.Node.{Node as Kept}
-use Rattle.pc_ir.specs.Flow.{sequence, no_nodes}
-use Rattle.pc_ir.specs.Residuals.{body_at}
-use Rattle.pc_ir.specs.Trees.{read}
-use Rattle.pc_region.specs.Limits.{started_by, threads_of}
+use Rattle.pc_lower.specs.declared.nodes.Node.{Node as Kept}
+use Rattle.pc_lower.specs.Flow.{sequence, no_nodes}
+use Rattle.pc_lower.specs.Residuals.{body_at}
+use Rattle.pc_lower.specs.Trees.{read}
+use Rattle.pc_lower.specs.Limits.{started_by, threads_of}
 
 body_of : (bodies : List Kept) (f : ℕ) → body_at (map read bodies) f ≡ unwrap_or (option_map read (slice_get bodies f)) (sequence no_nodes)
 body_of bodies f = ap (λ o. unwrap_or o (sequence no_nodes)) (slice_get-map read bodies f)

@@ -2,15 +2,15 @@
 use Rattle.std.proofs.Common.{◌≡◌, ◌≤◌, ◌<◌, ◌+◌, ◌*◌, ◌++◌, ◌==◌, ◌&&◌, ◌||◌, ℕ, zero, suc, Bool, true, false, IsTrue, List, [], ◌∷◌, refl, sym, subst, inl, inr, ⊎_elim, arith}
 use Rattle.std.specs.List.{AllByRecursion}
 use Rattle.std.proofs.lemmas.Bool.Decides.{nat_tests}
-use Rattle.pc_ir.specs.Flow.{Node, Nodes, straight, sequence, branch, turns, bounded, call, pause, fork, guard, no_nodes, and}
-use Rattle.pc_region.specs.Laid.{Placing}
-use Rattle.pc_region.specs.Counts.{Sizes, option_words, through, through_all}
-use Rattle.pc_region.specs.Bounds.{span, span_all}
-use Rattle.pc_region.specs.Program.{IsEarlier, AreEarlier, HasRoom, HaveRoom}
-use Rattle.pc_region.specs.Shaped.{can_end, can_all_end, IsLasting, AreLasting}
-use Rattle.pc_region.proofs.Slots.{same-of}
-use Rattle.pc_region.proofs.Threads.{all-append, all-as}
-use Rattle.tk_bound.proofs.Lists.{IsAmong, passes-any, any-passes}
+use Rattle.pc_lower.specs.Flow.{Node, Nodes, straight, sequence, branch, turns, bounded, call, pause, fork, guard, no_nodes, and}
+use Rattle.pc_lower.specs.Laid.{Placing}
+use Rattle.pc_lower.specs.StepCounts.{Sizes, option_words, through, through_all}
+use Rattle.pc_lower.specs.Bounds.{span, span_all}
+use Rattle.pc_lower.specs.Program.{IsEarlier, AreEarlier, HasRoom, HaveRoom}
+use Rattle.pc_lower.specs.Shaped.{can_end, can_all_end, IsLasting, AreLasting}
+use Rattle.pc_lower.proofs.Slots.{same-of}
+use Rattle.pc_lower.proofs.RegionThreads.{all-append, all-as}
+use Rattle.tk_paths.proofs.Lists.{IsAmong, passes-any, any-passes}
 use Rattle.pc_emit.specs.Sections.{calls_in, calls_in_all, is_among}
 use Rattle.pc_emit.proofs.Spans.{IsTurning, AreTurning}
 

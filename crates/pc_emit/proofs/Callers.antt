@@ -1,7 +1,7 @@
 -- Which functions are called, told from the last to the first.
 use Rattle.std.proofs.Common.{◌≡◌, ℕ, ◌+◌, ◌==◌, Bool, true, false, ◌||◌, if◌then◌else◌, List, [], ◌∷◌, ◌++◌, reverse, refl, sym, ap, subst, ◌∙◌, append_assoc, append-nil}
 use Rattle.std.proofs.lemmas.List.{reverse-append}
-use Rattle.pc_ir.specs.Flow.{Node}
+use Rattle.pc_lower.specs.Flow.{Node}
 use Rattle.pc_emit.specs.Image.{slot_of}
 use Rattle.pc_emit.specs.Sections.{is_among, is_used, calls_in, used_calls}
 use Rattle.pc_emit.specs.Made.{calls_from}

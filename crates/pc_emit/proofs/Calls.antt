@@ -3,11 +3,11 @@ use Rattle.std.proofs.Common.{◌≡◌, inl, inr, ℕ, zero, suc, ◌+◌, ◌<
 use Rattle.std.proofs.Common.{◌++◌, length, slice_get, refl, ap, subst, ◌∙◌, arith, eq-eqb, ⊎_elim}
 use Rattle.std.specs.List.{AllByRecursion}
 use Rattle.std.proofs.lemmas.Bool.{or_left, or_right, or_cases}
-use Rattle.pc_ir.specs.Flow.{Node, Nodes, straight, sequence, branch, turns, bounded, call, pause, fork, guard, no_nodes, and}
-use Rattle.pc_ir.specs.Residuals.{body_at}
-use Rattle.pc_region.specs.Laid.{Placing}
-use Rattle.pc_region.specs.Program.{IsEarlier, AreEarlier, InOrder, HasRoom, HaveRoom}
-use Rattle.tk_bound.proofs.Lists.{IsAmong, passes-any}
+use Rattle.pc_lower.specs.Flow.{Node, Nodes, straight, sequence, branch, turns, bounded, call, pause, fork, guard, no_nodes, and}
+use Rattle.pc_lower.specs.Residuals.{body_at}
+use Rattle.pc_lower.specs.Laid.{Placing}
+use Rattle.pc_lower.specs.Program.{IsEarlier, AreEarlier, InOrder, HasRoom, HaveRoom}
+use Rattle.tk_paths.proofs.Lists.{IsAmong, passes-any}
 use Rattle.pc_emit.specs.Image.{slot_of}
 use Rattle.pc_emit.specs.Sections.{calls_in, calls_in_all, is_among, is_used, used_calls}
 

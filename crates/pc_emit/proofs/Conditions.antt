@@ -5,10 +5,10 @@ use Rattle.std.specs.List.{AllByRecursion}
 use Rattle.mb_isa.specs.declared.words.Instr.TheVariants.{Cend}
 use Rattle.pt_image.specs.declared.image.AbortLine.{AbortLine}
 use Rattle.pt_image.specs.declared.image.Parts.{Parts}
-use Rattle.pc_ir.specs.declared.nodes.Test.{Test}
-use Rattle.pc_ir.specs.Flow.{abort_at, is_weak}
-use Rattle.pc_region.specs.Places.{line_in}
-use Rattle.pc_region.specs.Words.{words_in, Writing, HasCondition}
+use Rattle.pc_lower.specs.declared.nodes.Test.{Test}
+use Rattle.pc_lower.specs.Flow.{abort_at, is_weak}
+use Rattle.pc_lower.specs.Places.{line_in}
+use Rattle.pc_lower.specs.Words.{words_in, Writing, HasCondition}
 use Rattle.pc_emit.specs.Part.{Part}
 use Rattle.pc_regs.specs.Writings.{instrs, WritesWork}
 use Rattle.pc_emit.specs.Code.{short}

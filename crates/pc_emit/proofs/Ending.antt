@@ -2,13 +2,13 @@
 use Rattle.std.proofs.Common.{◌≡◌, ℕ, zero, suc, ◌+◌, ◌-◌, ◌<◌, ◌≤◌, Bool, false, List, [], ◌∷◌, length, map, refl, sym, ap, ◌∙◌, arith}
 use Rattle.std.specs.Prelude.{slice_index_or}
 use Rattle.std.specs.List.{range_with_len}
-use Rattle.pc_ir.specs.Flow.{Flow, flows_of}
-use Rattle.pc_ir.specs.Residuals.{body_at}
-use Rattle.pc_region.specs.Laid.{Placing}
-use Rattle.pc_region.specs.Slots.{AreChildren, Runs}
-use Rattle.pc_region.specs.Words.{Writing}
-use Rattle.pc_region.specs.Limits.{threads_of}
-use Rattle.pc_region.specs.Numbering.{slots_of, function_of, parent_of, first_started}
+use Rattle.pc_lower.specs.Flow.{Flow, flows_of}
+use Rattle.pc_lower.specs.Residuals.{body_at}
+use Rattle.pc_lower.specs.Laid.{Placing}
+use Rattle.pc_lower.specs.Slots.{AreChildren, Runs}
+use Rattle.pc_lower.specs.Words.{Writing}
+use Rattle.pc_lower.specs.Limits.{threads_of}
+use Rattle.pc_lower.specs.Numbering.{slots_of, function_of, parent_of, first_started}
 use Rattle.tk_paths.specs.Regions.{Region}
 use Rattle.tk_paths.specs.Codes.{Code, all_end}
 use Rattle.tk_paths.specs.Codes as codes_of_threads

@@ -2,10 +2,10 @@
 use Rattle.std.proofs.Common.{◌≡◌, ℕ, zero, suc, ◌+◌, ◌<◌, ◌≤◌, false, Option, Some, None, List, [], ◌∷◌, length, refl, ap, subst, ◌∙◌, arith, eq-eqb, length-append}
 use Rattle.std.specs.Prelude.{◌==◌, if◌then◌else◌, slice_index_or, unwrap_or}
 use Rattle.std.proofs.lemmas.Bool.{ne_eqb}
-use Rattle.pc_ir.specs.Flow.{Node}
-use Rattle.pc_ir.specs.Residuals.{body_at}
-use Rattle.pc_region.specs.Words.{Writing}
-use Rattle.pc_region.specs.Layable.{pauses_in, forks_of, guards_of, numbers_in}
+use Rattle.pc_lower.specs.Flow.{Node}
+use Rattle.pc_lower.specs.Residuals.{body_at}
+use Rattle.pc_lower.specs.Words.{Writing}
+use Rattle.pc_lower.specs.Layable.{pauses_in, forks_of, guards_of, numbers_in}
 use Rattle.pc_emit.specs.Part.{Part, joined}
 use Rattle.pc_emit.specs.Code.{size, code}
 use Rattle.pc_emit.specs.Image.{found_from, slot_of, closing, functions_size, entrances_from, function_code, functions_code}

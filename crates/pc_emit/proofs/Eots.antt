@@ -13,17 +13,17 @@ use Rattle.mb_isa.specs.Candidates.{candidate_for}
 use Rattle.mb_isa.proofs.Inverse.{candidate_for-code_of}
 use Rattle.mb_pfu.specs.Tree.{Leaf, Finished}
 use Rattle.mb_pfu.specs.Unit.{State}
-use Rattle.mb_step.specs.Control.{Condition}
+use Rattle.mb_isa.specs.Control.{Condition}
 use Rattle.pt_image.specs.declared.image.Point.{Point}
 use Rattle.pt_image.specs.declared.image.Parts.{Parts}
 use Rattle.pt_image.specs.Ranges.{places_of}
-use Rattle.pc_ir.specs.declared.nodes.Test.{Test}
-use Rattle.pc_ir.specs.Flow.{Node, Nodes, straight, sequence, branch, turns, bounded, call, pause, fork, guard, no_nodes, and, Flow, Flows, flows_of}
-use Rattle.pc_region.specs.Laid.{Placing}
-use Rattle.pc_region.specs.Numbering.{slots_of, first_started}
-use Rattle.pc_region.specs.Words.{Written, alone, after_imm, words_in, Writing, IsWork, IsTest}
-use Rattle.pc_region.specs.Limits.{threads_of}
-use Rattle.pc_region.specs.Layable.{IsLayable, AreLayable}
+use Rattle.pc_lower.specs.declared.nodes.Test.{Test}
+use Rattle.pc_lower.specs.Flow.{Node, Nodes, straight, sequence, branch, turns, bounded, call, pause, fork, guard, no_nodes, and, Flow, Flows, flows_of}
+use Rattle.pc_lower.specs.Laid.{Placing}
+use Rattle.pc_lower.specs.Numbering.{slots_of, first_started}
+use Rattle.pc_lower.specs.Words.{Written, alone, after_imm, words_in, Writing, IsWork, IsTest}
+use Rattle.pc_lower.specs.Limits.{threads_of}
+use Rattle.pc_lower.specs.Layable.{IsLayable, AreLayable}
 use Rattle.pc_regs.specs.Writings.{instrs, AreWork, WritesWork, OptionWritten, NodeWritten, NodesWritten}
 use Rattle.pc_emit.specs.Part.{Part, joined, just, entering}
 use Rattle.pc_emit.specs.Code.{loop_size, drop_size, test_size, option_size, size, sizes, short, way, upper_half, lower_half, jump, loop_words, drop_words, tested, option_tested, code, codes}

@@ -5,20 +5,20 @@ use Rattle.std.proofs.lemmas.Option.{same_Some}
 use Rattle.mb_isa.specs.declared.Instr.TheVariants as instr
 use Rattle.pt_image.specs.declared.Point.{Point}
 use Rattle.pt_image.specs.declared.Parts.{Parts}
-use Rattle.pc_ir.specs.declared.nodes.Step.{Step}
-use Rattle.pc_ir.specs.declared.nodes.Test.{Test}
-use Rattle.pc_ir.specs.Flow.{Node, Nodes, straight, sequence, branch, turns, bounded, call, pause, fork, guard, no_nodes, and, Flows}
-use Rattle.pc_ir.specs.Residuals.{body_at}
-use Rattle.pc_region.specs.Places.{Has}
-use Rattle.pc_region.specs.Laid.{Placing, HasChildren, Laid, LaidAll}
-use Rattle.pc_region.specs.Counts.{total_of}
-use Rattle.pc_region.specs.Program.{HasRoom, HaveRoom}
-use Rattle.pc_region.specs.Limits.{threads_of, threads_of_all}
-use Rattle.pc_region.specs.Layable.{IsInstant, AreInstant, forks_of, forks_of_all, numbers_in}
-use Rattle.pc_region.proofs.Threads.{total-append}
-use Rattle.tk_bound.specs.Words.{instr_in, instr_at}
-use Rattle.tk_bound.specs.Shape.{children_at, children_in}
-use Rattle.tk_bound.proofs.Lists.{IsAmong}
+use Rattle.pc_lower.specs.declared.nodes.Step.{Step}
+use Rattle.pc_lower.specs.declared.nodes.Test.{Test}
+use Rattle.pc_lower.specs.Flow.{Node, Nodes, straight, sequence, branch, turns, bounded, call, pause, fork, guard, no_nodes, and, Flows}
+use Rattle.pc_lower.specs.Residuals.{body_at}
+use Rattle.pc_lower.specs.Places.{Has}
+use Rattle.pc_lower.specs.Laid.{Placing, HasChildren, Laid, LaidAll}
+use Rattle.pc_lower.specs.StepCounts.{total_of}
+use Rattle.pc_lower.specs.Program.{HasRoom, HaveRoom}
+use Rattle.pc_lower.specs.Limits.{threads_of, threads_of_all}
+use Rattle.pc_lower.specs.Layable.{IsInstant, AreInstant, forks_of, forks_of_all, numbers_in}
+use Rattle.pc_lower.proofs.RegionThreads.{total-append}
+use Rattle.tk_paths.specs.Words.{instr_in, instr_at}
+use Rattle.tk_paths.specs.Shape.{children_at, children_in}
+use Rattle.tk_paths.proofs.Lists.{IsAmong}
 
 among-parts : (x : ℕ) (xs ys : List ℕ) → IsAmong x (xs ++ ys) → IsAmong x xs ⊎ IsAmong x ys
 among-parts x [] ys h = inr h

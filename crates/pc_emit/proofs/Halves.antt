@@ -4,9 +4,9 @@ use Rattle.mb_isa.specs.declared.words.Instr.{Instr}
 use Rattle.mb_isa.specs.declared.words.Instr.TheVariants.{Imm}
 use Rattle.mb_pfu.specs.Tree.{Leaf, Finished}
 use Rattle.mb_pfu.specs.Unit.{State}
-use Rattle.mb_step.specs.Control.{Condition}
+use Rattle.mb_isa.specs.Control.{Condition}
 use Rattle.pt_image.specs.declared.image.Parts.{Parts}
-use Rattle.pc_region.specs.Words.{Written, alone, after_imm, IsWork}
+use Rattle.pc_lower.specs.Words.{Written, alone, after_imm, IsWork}
 use Rattle.pc_regs.specs.Writings.{instrs, AreWork}
 use Rattle.pc_emit.specs.Units.{is_half, units_in}
 

@@ -5,12 +5,12 @@ use Rattle.std.specs.Prelude.{slice_index_or}
 use Rattle.mb_isa.specs.declared.words.Instr.TheVariants.{Bri, Fork, Eot, Abrt, Leave, Call, Next, Drop}
 use Rattle.pt_image.specs.declared.image.Point.{Point}
 use Rattle.pt_image.specs.declared.image.Parts.{Parts}
-use Rattle.pc_ir.specs.declared.nodes.Test.{Test}
-use Rattle.pc_ir.specs.Flow.{Node, Nodes, straight, sequence, branch, turns, bounded, call, pause, fork, guard, no_nodes, and, Flows}
-use Rattle.pc_region.specs.Laid.{Placing, HasOption, HasDrop, HasChildren, Laid, LaidAll}
-use Rattle.pc_region.specs.Words.{Writing, HasSteps, HasTest}
-use Rattle.pc_region.specs.Limits.{threads_of}
-use Rattle.pc_region.specs.Layable.{IsLayable, AreLayable, pauses_in, pauses_in_all, forks_of, forks_of_all, guards_of, guards_of_all}
+use Rattle.pc_lower.specs.declared.nodes.Test.{Test}
+use Rattle.pc_lower.specs.Flow.{Node, Nodes, straight, sequence, branch, turns, bounded, call, pause, fork, guard, no_nodes, and, Flows}
+use Rattle.pc_lower.specs.Laid.{Placing, HasOption, HasDrop, HasChildren, Laid, LaidAll}
+use Rattle.pc_lower.specs.Words.{Writing, HasSteps, HasTest}
+use Rattle.pc_lower.specs.Limits.{threads_of}
+use Rattle.pc_lower.specs.Layable.{IsLayable, AreLayable, pauses_in, pauses_in_all, forks_of, forks_of_all, guards_of, guards_of_all}
 use Rattle.pc_emit.specs.Part.{Part, joined, just, entering}
 use Rattle.pc_regs.specs.Writings.{instrs, WritesWork, OptionWritten, NodeWritten, NodesWritten}
 use Rattle.pc_emit.specs.Code.{loop_size, drop_size, test_size, option_size, size, sizes, short, jump, loop_words, drop_words, point, tested, option_tested, code, codes}

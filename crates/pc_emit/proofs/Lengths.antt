@@ -2,10 +2,10 @@
 use Rattle.std.proofs.Common.{◌≡◌, ℕ, ◌+◌, ◌%◌, Bool, true, false, Option, Some, None, List, [], ◌∷◌, ◌++◌, length, refl, ap, ◌∙◌, arith, length-append}
 use Rattle.std.specs.Prelude.{nat_lt, if◌then◌else◌}
 use Rattle.mb_isa.specs.declared.words.Instr.TheVariants.{Imm, Loop}
-use Rattle.pc_ir.specs.declared.nodes.Test.{Test}
-use Rattle.pc_ir.specs.Flow.{Node, Nodes, straight, sequence, branch, turns, bounded, call, pause, fork, guard, no_nodes, and}
-use Rattle.pc_region.specs.Words.{Written, alone, after_imm, words_in, Writing}
-use Rattle.pc_region.specs.Limits.{threads_of}
+use Rattle.pc_lower.specs.declared.nodes.Test.{Test}
+use Rattle.pc_lower.specs.Flow.{Node, Nodes, straight, sequence, branch, turns, bounded, call, pause, fork, guard, no_nodes, and}
+use Rattle.pc_lower.specs.Words.{Written, alone, after_imm, words_in, Writing}
+use Rattle.pc_lower.specs.Limits.{threads_of}
 use Rattle.pc_regs.specs.Writings.{instrs}
 use Rattle.pc_emit.specs.Code.{loop_size, drop_size, test_size, option_size, size, sizes, loop_words, drop_words, upper_half, jump, tested, option_tested, code, codes}
 

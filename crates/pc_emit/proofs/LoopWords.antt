@@ -7,11 +7,11 @@ use Rattle.mb_isa.specs.declared.words.Instr.{Instr}
 use Rattle.mb_isa.specs.declared.words.Instr.TheVariants as instr
 use Rattle.mb_isa.specs.Codes.{code_of}
 use Rattle.mb_isa.specs.Candidates.{shift_candidate, branch_candidate, unit_candidate, candidate_of, candidate_for, decoded}
-use Rattle.mb_step.specs.Words.{is_barred}
+use Rattle.mb_isa.specs.Words.{is_barred}
 use Rattle.pt_image.specs.declared.Parts.{Parts}
-use Rattle.tk_bound.specs.declared.word.Word.{Word}
-use Rattle.tk_bound.specs.declared.word.Word.TheVariants as word
-use Rattle.tk_bound.specs.Words.{word_of, instr_in, instr_at, read_instr, read}
+use Rattle.tk_paths.specs.declared.word.Word.{Word}
+use Rattle.tk_paths.specs.declared.word.Word.TheVariants as word
+use Rattle.tk_paths.specs.Words.{word_of, instr_in, instr_at, read_instr, read}
 use Rattle.tk_paths.specs.Regions.{behind_half, half, behind, IsUnit}
 use Rattle.pc_emit.specs.Code.{loop_size}
 

@@ -11,9 +11,9 @@ use Rattle.mb_isa.specs.Codes.{code_of, IsInstr}
 use Rattle.mb_isa.specs.Candidates.{decoded}
 use Rattle.mb_isa.proofs.Inverse.{candidate_for-code_of}
 use Rattle.pt_image.specs.declared.image.Parts.{Parts}
-use Rattle.pc_ir.specs.declared.nodes.Test.{Test}
-use Rattle.pc_region.specs.Places.{Has, HasJump, wide, HasLoop, wide_loop, short_loop}
-use Rattle.pc_region.specs.Words.{Written, alone, after_imm, words_in, Writing, HasWritten, HasBranch, wide_branch, HasTest}
+use Rattle.pc_lower.specs.declared.nodes.Test.{Test}
+use Rattle.pc_lower.specs.Places.{Has, HasJump, wide, HasLoop, wide_loop, short_loop}
+use Rattle.pc_lower.specs.Words.{Written, alone, after_imm, words_in, Writing, HasWritten, HasBranch, wide_branch, HasTest}
 use Rattle.pc_emit.specs.Part.{Part}
 use Rattle.pc_regs.specs.Writings.{instrs, AreWork, WritesWork}
 use Rattle.pc_emit.specs.Code.{test_size, loop_size, loop_words, way, upper_half, lower_half, jump}

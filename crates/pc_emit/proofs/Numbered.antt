@@ -1,8 +1,8 @@
 -- What is known of the slots of a flow.
 use Rattle.std.proofs.Common.{◌<◌, length}
-use Rattle.pc_ir.specs.Flow.{Flow}
-use Rattle.pc_region.specs.Program.{InOrder}
-use Rattle.pc_region.proofs.Numbering.{slots-are, have-slots}
+use Rattle.pc_lower.specs.Flow.{Flow}
+use Rattle.pc_lower.specs.Program.{InOrder}
+use Rattle.pc_lower.proofs.Numbering.{slots-are, have-slots}
 use Rattle.pc_emit.proofs.Whole.{HasThreads}
 
 pub slots : (f : Flow) → InOrder 0 f.bodies → f.main < length f.bodies → HasThreads f

@@ -4,10 +4,10 @@ use Rattle.std.proofs.Common.{List, [], ◌∷◌, length, refl, sym, ap, subst,
 use Rattle.std.specs.Prelude.{slice_index_or}
 use Rattle.std.specs.Option.{is_some}
 use Rattle.std.proofs.lemmas.Bool.{eqb-true, ne_eqb, cases_eq}
-use Rattle.pc_ir.specs.declared.nodes.Test.{Test}
-use Rattle.pc_ir.specs.Flow.{Node}
-use Rattle.pc_ir.specs.Residuals.{body_at}
-use Rattle.pc_region.specs.Words.{Writing}
+use Rattle.pc_lower.specs.declared.nodes.Test.{Test}
+use Rattle.pc_lower.specs.Flow.{Node}
+use Rattle.pc_lower.specs.Residuals.{body_at}
+use Rattle.pc_lower.specs.Words.{Writing}
 use Rattle.tk_paths.specs.Regions.{Region}
 use Rattle.tk_paths.specs.Programs.{Section, OfThread, IsIn}
 use Rattle.tk_paths.specs.Trees.{threads_in, code_of}

@@ -5,16 +5,16 @@ use Rattle.std.proofs.Common.{refl, sym, ap, subst, ◌∙◌, arith}
 use Rattle.std.specs.Prelude.{slice_index_or}
 use Rattle.std.specs.List.{AllByRecursion}
 use Rattle.pt_image.specs.declared.image.Parts.{Parts}
-use Rattle.pc_ir.specs.declared.nodes.Test.{Test}
-use Rattle.pc_ir.specs.Flow.{Node, Nodes, straight, sequence, branch, turns, bounded, call, pause, fork, guard, no_nodes, and}
-use Rattle.pc_region.specs.Laid.{Placing}
-use Rattle.pc_region.specs.Program.{HasRoom, HaveRoom}
-use Rattle.pc_region.specs.Words.{Writing}
-use Rattle.pc_region.specs.Layable.{IsInstant, AreInstant}
-use Rattle.pc_region.specs.Shaped.{can_end, can_all_end, IsLasting, AreLasting}
-use Rattle.pc_region.specs.Shaped as shaped
-use Rattle.tk_bound.proofs.Lists.{all-left, all-right}
-use Rattle.tk_bound.specs.declared.word.Word.TheVariants.{Ret}
+use Rattle.pc_lower.specs.declared.nodes.Test.{Test}
+use Rattle.pc_lower.specs.Flow.{Node, Nodes, straight, sequence, branch, turns, bounded, call, pause, fork, guard, no_nodes, and}
+use Rattle.pc_lower.specs.Laid.{Placing}
+use Rattle.pc_lower.specs.Program.{HasRoom, HaveRoom}
+use Rattle.pc_lower.specs.Words.{Writing}
+use Rattle.pc_lower.specs.Layable.{IsInstant, AreInstant}
+use Rattle.pc_lower.specs.Shaped.{can_end, can_all_end, IsLasting, AreLasting}
+use Rattle.pc_lower.specs.Shaped as shaped
+use Rattle.tk_paths.proofs.Lists.{all-left, all-right}
+use Rattle.tk_paths.specs.declared.word.Word.TheVariants.{Ret}
 use Rattle.tk_paths.specs.Regions.{Region, Calling, from, to, links_in, counters_in, IsWord, IsLaid}
 use Rattle.tk_paths.specs.Codes.{loops_in, EachCalled}
 use Rattle.tk_paths.specs.Programs.{Section, OfRoutine, IsIn}

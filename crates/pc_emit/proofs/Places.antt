@@ -1,8 +1,8 @@
 -- Parts put behind others, and the places behind them.
 use Rattle.std.proofs.Common.{◌≡◌, ℕ, suc, ◌+◌, ◌<◌, List, [], ◌∷◌, length, drop, get_or, refl, sym, ap, ◌∙◌, append_assoc, append-nil, length-append, drop-cons, add-one}
-use Rattle.pc_ir.specs.Flow.{Node, Nodes, and}
-use Rattle.pc_region.specs.Words.{Writing}
-use Rattle.pc_region.specs.Limits.{threads_of}
+use Rattle.pc_lower.specs.Flow.{Node, Nodes, and}
+use Rattle.pc_lower.specs.Words.{Writing}
+use Rattle.pc_lower.specs.Limits.{threads_of}
 use Rattle.pc_emit.specs.Part.{Part, joined, just}
 use Rattle.pc_emit.specs.Code.{size, code, codes}
 use Rattle.pc_emit.proofs.Lengths.{instrs_size, loop_words_size, drop_words_size, option_tested_size, code_size}

@@ -5,15 +5,15 @@ use Rattle.std.specs.List.{AllByRecursion}
 use Rattle.mb_isa.specs.declared.words.Instr.TheVariants.{Bri, Fork, Eot, Leave}
 use Rattle.pt_image.specs.declared.image.Point.{Point}
 use Rattle.pt_image.specs.declared.image.Parts.{Parts}
-use Rattle.pc_ir.specs.declared.nodes.Test.{Test}
-use Rattle.pc_ir.specs.Flow.{Node, Nodes, straight, sequence, branch, turns, bounded, call, pause, fork, guard, no_nodes, and}
-use Rattle.pc_region.specs.Laid.{Placing}
-use Rattle.pc_region.specs.Program.{HasRoom, HaveRoom}
-use Rattle.pc_region.specs.Slots.{AreChildren}
-use Rattle.pc_region.specs.Words.{Writing}
-use Rattle.pc_region.specs.Limits.{threads_of, threads_of_all}
-use Rattle.pc_region.specs.Layable.{IsInstant, AreInstant}
-use Rattle.tk_bound.specs.Words.{instr_at}
+use Rattle.pc_lower.specs.declared.nodes.Test.{Test}
+use Rattle.pc_lower.specs.Flow.{Node, Nodes, straight, sequence, branch, turns, bounded, call, pause, fork, guard, no_nodes, and}
+use Rattle.pc_lower.specs.Laid.{Placing}
+use Rattle.pc_lower.specs.Program.{HasRoom, HaveRoom}
+use Rattle.pc_lower.specs.Slots.{AreChildren}
+use Rattle.pc_lower.specs.Words.{Writing}
+use Rattle.pc_lower.specs.Limits.{threads_of, threads_of_all}
+use Rattle.pc_lower.specs.Layable.{IsInstant, AreInstant}
+use Rattle.tk_paths.specs.Words.{instr_at}
 use Rattle.pc_emit.specs.Part.{Part, joined, just, entering}
 use Rattle.pc_emit.specs.Code.{loop_size, test_size, option_size, size, sizes, short, jump, drop_words, tested, option_tested, code, codes}
 use Rattle.pc_emit.proofs.Lists.{IsAt, at_first, all_append}

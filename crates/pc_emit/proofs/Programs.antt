@@ -7,17 +7,17 @@ use Rattle.std.proofs.lemmas.List.{length-map}
 use Rattle.std.proofs.lemmas.List.FromFn.{length-range_with_len}
 use Rattle.pt_image.specs.declared.image.Point.{Point}
 use Rattle.pt_image.specs.declared.image.Parts.{Parts}
-use Rattle.pc_ir.specs.declared.nodes.Test.{Test}
-use Rattle.pc_ir.specs.Flow.{Node, Flow}
-use Rattle.pc_ir.specs.Residuals.{body_at}
-use Rattle.pc_region.specs.Laid.{Placing}
-use Rattle.pc_region.specs.Program.{HasRoom}
-use Rattle.pc_region.specs.Words.{words_in, Writing}
-use Rattle.pc_region.specs.Limits.{threads_of}
-use Rattle.pc_region.specs.Numbering.{slots_of, function_of, parent_of, first_started}
-use Rattle.pc_region.specs.Layable.{IsInstant}
-use Rattle.tk_bound.specs.Kinds.{start_of, abort_at, no_abort}
-use Rattle.tk_bound.proofs.Lists.{all-among}
+use Rattle.pc_lower.specs.declared.nodes.Test.{Test}
+use Rattle.pc_lower.specs.Flow.{Node, Flow}
+use Rattle.pc_lower.specs.Residuals.{body_at}
+use Rattle.pc_lower.specs.Laid.{Placing}
+use Rattle.pc_lower.specs.Program.{HasRoom}
+use Rattle.pc_lower.specs.Words.{words_in, Writing}
+use Rattle.pc_lower.specs.Limits.{threads_of}
+use Rattle.pc_lower.specs.Numbering.{slots_of, function_of, parent_of, first_started}
+use Rattle.pc_lower.specs.Layable.{IsInstant}
+use Rattle.tk_paths.specs.Kinds.{start_of, abort_at, no_abort}
+use Rattle.tk_paths.proofs.Lists.{all-among}
 use Rattle.tk_paths.specs.Regions.{Region}
 use Rattle.tk_paths.specs.Codes.{Code, entry, exit}
 use Rattle.tk_paths.specs.Programs.{Section, OfThread, OfRoutine, OfCondition, Unused, Program, IsIn, IsInThread, IsPauseIn, IsForkIn}

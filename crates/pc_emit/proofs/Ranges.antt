@@ -14,14 +14,14 @@ use Rattle.pt_image.specs.declared.image.Point.{Point}
 use Rattle.pt_image.specs.declared.image.Parts.{Parts}
 use Rattle.pt_image.specs.Form.{AreWords}
 use Rattle.pt_image.specs.Ranges.{AllBelow, IsAbortLine, IsPoint, places_of, ArePoints, IsImage}
-use Rattle.pc_ir.specs.declared.nodes.Test.{Test}
-use Rattle.pc_ir.specs.Flow.{Node, Nodes, straight, sequence, branch, turns, bounded, call, pause, fork, guard, no_nodes, and, Flow, Flows, flows_of}
-use Rattle.pc_ir.specs.Residuals.{body_at}
-use Rattle.pc_region.specs.Laid.{Placing}
-use Rattle.pc_region.specs.Words.{Written, alone, after_imm, words_in, Writing}
-use Rattle.pc_region.specs.Limits.{threads_of}
-use Rattle.pc_region.specs.Numbering.{slots_of, first_started}
-use Rattle.pc_region.specs.Layable.{IsLayable, AreLayable, guards_of, guards_of_all, numbers_in}
+use Rattle.pc_lower.specs.declared.nodes.Test.{Test}
+use Rattle.pc_lower.specs.Flow.{Node, Nodes, straight, sequence, branch, turns, bounded, call, pause, fork, guard, no_nodes, and, Flow, Flows, flows_of}
+use Rattle.pc_lower.specs.Residuals.{body_at}
+use Rattle.pc_lower.specs.Laid.{Placing}
+use Rattle.pc_lower.specs.Words.{Written, alone, after_imm, words_in, Writing}
+use Rattle.pc_lower.specs.Limits.{threads_of}
+use Rattle.pc_lower.specs.Numbering.{slots_of, first_started}
+use Rattle.pc_lower.specs.Layable.{IsLayable, AreLayable, guards_of, guards_of_all, numbers_in}
 use Rattle.pc_emit.specs.Part.{Part, joined, just, entering}
 use Rattle.pc_regs.specs.Writings.{instrs, AreWork, WritesWork, OptionWritten, NodeWritten, NodesWritten}
 use Rattle.pc_emit.specs.Code.{loop_size, drop_size, test_size, option_size, size, sizes, short, way, upper_half, lower_half, jump, loop_words, drop_words, tested, option_tested, code, codes}

@@ -5,16 +5,16 @@ use Rattle.std.specs.Prelude.{slice_index_or}
 use Rattle.std.specs.List.{AllByRecursion}
 use Rattle.mb_isa.specs.declared.words.Instr.TheVariants.{Bri, Call, Next, Drop}
 use Rattle.pt_image.specs.declared.image.Parts.{Parts}
-use Rattle.pc_ir.specs.declared.nodes.Step.{Step}
-use Rattle.pc_ir.specs.declared.nodes.Test.{Test}
-use Rattle.pc_ir.specs.Flow.{Node, Nodes, straight, sequence, branch, turns, bounded, call, pause, fork, guard, no_nodes, and, Flows}
-use Rattle.pc_region.specs.Laid.{Placing}
-use Rattle.pc_region.specs.Words.{words_in, Writing}
-use Rattle.pc_region.specs.Limits.{threads_of}
-use Rattle.pc_region.specs.Layable.{IsLayable, AreLayable}
-use Rattle.tk_bound.specs.declared.word.Word.TheVariants.{Jump, Branch}
-use Rattle.tk_bound.specs.declared.word.Word.TheVariants as word
-use Rattle.tk_bound.proofs.Lists.{all-left, all-right}
+use Rattle.pc_lower.specs.declared.nodes.Step.{Step}
+use Rattle.pc_lower.specs.declared.nodes.Test.{Test}
+use Rattle.pc_lower.specs.Flow.{Node, Nodes, straight, sequence, branch, turns, bounded, call, pause, fork, guard, no_nodes, and, Flows}
+use Rattle.pc_lower.specs.Laid.{Placing}
+use Rattle.pc_lower.specs.Words.{words_in, Writing}
+use Rattle.pc_lower.specs.Limits.{threads_of}
+use Rattle.pc_lower.specs.Layable.{IsLayable, AreLayable}
+use Rattle.tk_paths.specs.declared.word.Word.TheVariants.{Jump, Branch}
+use Rattle.tk_paths.specs.declared.word.Word.TheVariants as word
+use Rattle.tk_paths.proofs.Lists.{all-left, all-right}
 use Rattle.tk_paths.specs.Regions.{Region, Choice, Calling, from, to, behind, IsUnit, IsWord, AreUnits, IsLaid}
 use Rattle.tk_paths.specs.Programs.{Section}
 use Rattle.tk_paths.specs.Trees.{routine_at}

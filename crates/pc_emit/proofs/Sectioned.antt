@@ -6,26 +6,26 @@ use Rattle.std.proofs.lemmas.Bool.{cases_lt}
 use Rattle.std.proofs.lemmas.Bool.Decides.{nat_tests}
 use Rattle.std.proofs.lemmas.Option.{none-some, same_Some}
 use Rattle.pt_image.specs.declared.Parts.{Parts}
-use Rattle.pc_ir.specs.declared.nodes.Step.{Step}
-use Rattle.pc_ir.specs.declared.nodes.Test.{Test}
-use Rattle.pc_ir.specs.Flow.{Node, Flow, no_abort}
-use Rattle.pc_ir.specs.Residuals.{body_at}
+use Rattle.pc_lower.specs.declared.nodes.Step.{Step}
+use Rattle.pc_lower.specs.declared.nodes.Test.{Test}
+use Rattle.pc_lower.specs.Flow.{Node, Flow, no_abort}
+use Rattle.pc_lower.specs.Residuals.{body_at}
 use Rattle.pc_meaning.proofs.Lookups.{slice_get_middle}
-use Rattle.pc_region.specs.Laid.{Placing}
-use Rattle.pc_region.specs.Words.{words_in, Writing}
-use Rattle.pc_region.specs.Image.{condition_of, condition_words}
-use Rattle.pc_region.specs.Counts.{Sizes, through}
-use Rattle.pc_region.specs.Bounds.{span}
-use Rattle.pc_region.specs.Program.{IsEarlier, HasRoom}
-use Rattle.pc_region.specs.Limits.{started_by, sum_below, without_threads, passage}
-use Rattle.pc_region.specs.Numbering.{slots_of, function_of, first_started}
-use Rattle.pc_region.specs.Layable.{CanBeLaid}
-use Rattle.pc_region.specs.Shaped.{IsLasting}
-use Rattle.pc_region.proofs.Earlier.{earlier}
-use Rattle.pc_region.proofs.Slots.{same-of}
-use Rattle.pc_region.proofs.Threads.{all-append, all-as}
-use Rattle.tk_bound.proofs.Lists.{IsAmong}
-use Rattle.tk_bound.proofs.Accepts.{among-left, among-right}
+use Rattle.pc_lower.specs.Laid.{Placing}
+use Rattle.pc_lower.specs.Words.{words_in, Writing}
+use Rattle.pc_lower.specs.Image.{condition_of, condition_words}
+use Rattle.pc_lower.specs.StepCounts.{Sizes, through}
+use Rattle.pc_lower.specs.Bounds.{span}
+use Rattle.pc_lower.specs.Program.{IsEarlier, HasRoom}
+use Rattle.pc_lower.specs.Limits.{started_by, sum_below, without_threads, passage}
+use Rattle.pc_lower.specs.Numbering.{slots_of, function_of, first_started}
+use Rattle.pc_lower.specs.Layable.{CanBeLaid}
+use Rattle.pc_lower.specs.Shaped.{IsLasting}
+use Rattle.pc_lower.proofs.Earlier.{earlier}
+use Rattle.pc_lower.proofs.Slots.{same-of}
+use Rattle.pc_lower.proofs.RegionThreads.{all-append, all-as}
+use Rattle.tk_paths.proofs.Lists.{IsAmong}
+use Rattle.tk_paths.proofs.Accepts.{among-left, among-right}
 use Rattle.tk_paths.specs.Regions.{Region}
 use Rattle.tk_paths.specs.Codes.{IsLaidIn}
 use Rattle.tk_paths.specs.Programs.{Section, OfThread, OfRoutine, OfCondition, Unused, AreSections}

@@ -7,17 +7,17 @@ use Rattle.std.specs.List.{AllByRecursion}
 use Rattle.std.proofs.lemmas.Bool.{cases_eq, ne_eqb}
 use Rattle.mb_isa.specs.declared.words.Instr.TheVariants.{End, Ret, Cend}
 use Rattle.pt_image.specs.declared.image.Parts.{Parts}
-use Rattle.pc_ir.specs.declared.nodes.Test.{Test}
-use Rattle.pc_ir.specs.Flow.{Node, Flow, Flows, flows_of, is_weak}
-use Rattle.pc_ir.specs.Residuals.{body_at}
-use Rattle.pc_region.specs.Laid.{Placing}
-use Rattle.pc_region.specs.Program.{IsEarlier, HasRoom}
-use Rattle.pc_region.specs.Words.{words_in, Writing}
-use Rattle.pc_region.specs.Numbering.{slots_of, function_of, parent_of, first_started}
-use Rattle.pc_region.specs.Layable.{pauses_in, forks_of, guards_of, numbers_in, IsLayable, IsInstant, IsCalled}
-use Rattle.pc_region.specs.Shaped.{IsLasting}
-use Rattle.pc_region.specs.Shaped as shaped
-use Rattle.tk_bound.specs.declared.word.Word.TheVariants as word
+use Rattle.pc_lower.specs.declared.nodes.Test.{Test}
+use Rattle.pc_lower.specs.Flow.{Node, Flow, Flows, flows_of, is_weak}
+use Rattle.pc_lower.specs.Residuals.{body_at}
+use Rattle.pc_lower.specs.Laid.{Placing}
+use Rattle.pc_lower.specs.Program.{IsEarlier, HasRoom}
+use Rattle.pc_lower.specs.Words.{words_in, Writing}
+use Rattle.pc_lower.specs.Numbering.{slots_of, function_of, parent_of, first_started}
+use Rattle.pc_lower.specs.Layable.{pauses_in, forks_of, guards_of, numbers_in, IsLayable, IsInstant, IsCalled}
+use Rattle.pc_lower.specs.Shaped.{IsLasting}
+use Rattle.pc_lower.specs.Shaped as shaped
+use Rattle.tk_paths.specs.declared.word.Word.TheVariants as word
 use Rattle.tk_paths.specs.Regions.{Region, from, to, links_in, counters_in, IsWord, IsLaid}
 use Rattle.tk_paths.specs.Codes.{Code}
 use Rattle.tk_paths.specs.Programs.{Section, OfThread, OfRoutine, Program, ends_in, AreSections, IsIn, IsClosed}

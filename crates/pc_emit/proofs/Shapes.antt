@@ -2,15 +2,15 @@
 use Rattle.std.proofs.Common.{◌≡◌, ℕ, ◌+◌, Bool, false, Option, Some, None, List, length, refl, ◌∙◌, arith}
 use Rattle.std.specs.List.{AllByRecursion, list_all}
 use Rattle.pt_image.specs.declared.image.Parts.{Parts}
-use Rattle.pc_ir.specs.declared.nodes.Test.{Test}
-use Rattle.pc_ir.specs.Flow.{Node, Nodes, straight, sequence, branch, turns, bounded, call, pause, fork, guard, no_nodes, and}
-use Rattle.pc_region.specs.Laid.{Placing}
-use Rattle.pc_region.specs.Program.{HasRoom, HaveRoom}
-use Rattle.pc_region.specs.Words.{Writing}
-use Rattle.pc_region.specs.Limits.{threads_of}
-use Rattle.pc_region.specs.Shaped.{can_end, can_all_end, IsLasting, AreLasting}
-use Rattle.pc_region.specs.Shaped as shaped
-use Rattle.tk_bound.proofs.Lists.{all-left, all-right}
+use Rattle.pc_lower.specs.declared.nodes.Test.{Test}
+use Rattle.pc_lower.specs.Flow.{Node, Nodes, straight, sequence, branch, turns, bounded, call, pause, fork, guard, no_nodes, and}
+use Rattle.pc_lower.specs.Laid.{Placing}
+use Rattle.pc_lower.specs.Program.{HasRoom, HaveRoom}
+use Rattle.pc_lower.specs.Words.{Writing}
+use Rattle.pc_lower.specs.Limits.{threads_of}
+use Rattle.pc_lower.specs.Shaped.{can_end, can_all_end, IsLasting, AreLasting}
+use Rattle.pc_lower.specs.Shaped as shaped
+use Rattle.tk_paths.proofs.Lists.{all-left, all-right}
 use Rattle.tk_paths.specs.Regions.{Region}
 use Rattle.tk_paths.specs.Codes.{Code, Passed, entry, exit, EachCall, all_end, IsRoomy, IsLaidIn}
 use Rattle.tk_paths.specs.Codes as codes_of_threads

@@ -2,15 +2,15 @@
 use Rattle.std.proofs.Common.{◌≡◌, ◌≤◌, ◌<◌, ◌+◌, ◌==◌, ℕ, zero, suc, Bool, true, false, if◌then◌else◌, List, [], ◌∷◌, length, append-nil, slice_index_or, refl, sym, ap, ◌∙◌, subst, arith}
 use Rattle.std.specs.List.{AllByRecursion}
 use Rattle.std.proofs.lemmas.Bool.Decides.{nat_tests}
-use Rattle.pc_ir.specs.Flow.{Flow}
-use Rattle.pc_region.specs.Slots.{Runs}
-use Rattle.pc_region.specs.Counts.{total_of}
-use Rattle.pc_region.specs.Program.{InOrder}
-use Rattle.pc_region.specs.Limits.{started_by, times_in, times_below, sum_below}
-use Rattle.pc_region.specs.Numbering.{all_started, slots_of, function_of, first_started, HaveSlots}
-use Rattle.pc_region.proofs.Slots.{same-of}
-use Rattle.pc_region.proofs.Threads.{all-append, all-less, below-more, sum-more, one-less, sums}
-use Rattle.pc_region.proofs.Numbering.{starts-below, slots-are, have-slots}
+use Rattle.pc_lower.specs.Flow.{Flow}
+use Rattle.pc_lower.specs.Slots.{Runs}
+use Rattle.pc_lower.specs.StepCounts.{total_of}
+use Rattle.pc_lower.specs.Program.{InOrder}
+use Rattle.pc_lower.specs.Limits.{started_by, times_in, times_below, sum_below}
+use Rattle.pc_lower.specs.Numbering.{all_started, slots_of, function_of, first_started, HaveSlots}
+use Rattle.pc_lower.proofs.Slots.{same-of}
+use Rattle.pc_lower.proofs.RegionThreads.{all-append, all-less, below-more, sum-more, one-less, sums}
+use Rattle.pc_lower.proofs.Numbering.{starts-below, slots-are, have-slots}
 use Rattle.tk_paths.specs.Counts.{total}
 
 -- what stands for a number at its place in a list, counted from a place

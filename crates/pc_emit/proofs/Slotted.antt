@@ -2,11 +2,11 @@
 use Rattle.std.proofs.Common.{◌≡◌, ℕ, zero, suc, ◌+◌, ◌<◌, Bool, IsTrue, Some}
 use Rattle.std.proofs.Common.{None, List, [], length, map, slice_get, sym, ap, subst, ◌∙◌, arith, ⊎_elim}
 use Rattle.std.specs.List.{range_with_len}
-use Rattle.pc_ir.specs.Flow.{Flow}
-use Rattle.pc_ir.specs.Residuals.{body_at}
-use Rattle.pc_region.specs.Laid.{Placing}
-use Rattle.pc_region.specs.Words.{Writing}
-use Rattle.pc_region.specs.Numbering.{slots_of, function_of, first_started}
+use Rattle.pc_lower.specs.Flow.{Flow}
+use Rattle.pc_lower.specs.Residuals.{body_at}
+use Rattle.pc_lower.specs.Laid.{Placing}
+use Rattle.pc_lower.specs.Words.{Writing}
+use Rattle.pc_lower.specs.Numbering.{slots_of, function_of, first_started}
 use Rattle.tk_paths.specs.Programs.{Section, Program, ends_in}
 use Rattle.tk_paths.specs.Trees.{threads_in, code_of}
 use Rattle.pc_emit.specs.Image.{slot_of, functions_size}

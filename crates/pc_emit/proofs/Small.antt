@@ -5,23 +5,23 @@ use Rattle.std.proofs.lemmas.Bool.{cases_lt}
 use Rattle.mb_isa.specs.Costs.{IsCosts, cost_of}
 use Rattle.mb_isa.specs.declared.Class.TheVariants as class
 use Rattle.mb_isa.proofs.CostRange.{cost_of-range}
-use Rattle.mb_step.specs.Tick.{base_of}
+use Rattle.mb_isa.specs.Tick.{base_of}
 use Rattle.pt_image.specs.declared.Point.{Point}
 use Rattle.pt_image.specs.declared.Parts.{Parts}
-use Rattle.pc_ir.specs.Flow.{Node, Flow, flows_of, is_weak}
-use Rattle.pc_ir.specs.Residuals.{body_at}
-use Rattle.pc_region.specs.Slots.{AreChildren}
-use Rattle.pc_region.specs.Laid.{Placing}
-use Rattle.pc_region.specs.Words.{Writing, HasSteps, HasTest}
-use Rattle.pc_region.specs.Image.{IsImageOf}
-use Rattle.pc_region.specs.Counts.{Sizes, total_of}
-use Rattle.pc_region.specs.Bounds.{span}
-use Rattle.pc_region.specs.Limits.{started_by, sum_below, without_threads, passage, IsWithinLimits}
-use Rattle.pc_region.specs.Numbering.{slots_of, function_of, parent_of, first_started}
-use Rattle.pc_region.specs.Layable.{forks_of, numbers_in, CanBeLaid}
-use Rattle.pc_region.proofs.Slots.{same-of}
-use Rattle.tk_bound.specs.Shape.{children_at}
-use Rattle.tk_bound.proofs.Lists.{IsAmong, among-range}
+use Rattle.pc_lower.specs.Flow.{Node, Flow, flows_of, is_weak}
+use Rattle.pc_lower.specs.Residuals.{body_at}
+use Rattle.pc_lower.specs.Slots.{AreChildren}
+use Rattle.pc_lower.specs.Laid.{Placing}
+use Rattle.pc_lower.specs.Words.{Writing, HasSteps, HasTest}
+use Rattle.pc_lower.specs.Image.{IsImageOf}
+use Rattle.pc_lower.specs.StepCounts.{Sizes, total_of}
+use Rattle.pc_lower.specs.Bounds.{span}
+use Rattle.pc_lower.specs.Limits.{started_by, sum_below, without_threads, passage, IsWithinLimits}
+use Rattle.pc_lower.specs.Numbering.{slots_of, function_of, parent_of, first_started}
+use Rattle.pc_lower.specs.Layable.{forks_of, numbers_in, CanBeLaid}
+use Rattle.pc_lower.proofs.Slots.{same-of}
+use Rattle.tk_paths.specs.Shape.{children_at}
+use Rattle.tk_paths.proofs.Lists.{IsAmong, among-range}
 use Rattle.tk_paths.specs.Codes.{Code, IsLaidIn}
 use Rattle.tk_paths.specs.Programs.{Section, OfThread, OfRoutine, OfCondition, Unused, Program, IsProgram}
 use Rattle.tk_paths.specs.Counts.{total, way_most, starts_most_from, starts_most, section_most, greatest_most, condition_most, tests_most, waited_most, place_most, slots_most_from, slots_most, AreSmall}

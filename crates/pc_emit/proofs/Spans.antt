@@ -2,13 +2,13 @@
 use Rattle.std.proofs.Common.{◌≡◌, ◌≤◌, ◌+◌, ◌-◌, ◌*◌, ◌++◌, ℕ, zero, suc, ℤ, List, [], ◌∷◌, length, length-append, slice_index_or, Option, Some, None, refl, ap, ◌∙◌, arith}
 use Rattle.std.specs.List.{AllByRecursion}
 use Rattle.pt_image.specs.declared.Parts.{Parts}
-use Rattle.pc_ir.specs.declared.nodes.Step.{Step}
-use Rattle.pc_ir.specs.declared.nodes.Test.{Test}
-use Rattle.pc_ir.specs.Flow.{Node, Nodes, straight, sequence, branch, turns, bounded, call, pause, fork, guard, no_nodes, and}
-use Rattle.pc_region.specs.Words.{words_in, Writing}
-use Rattle.pc_region.specs.Counts.{Sizes, through, through_all}
-use Rattle.pc_region.specs.Bounds.{span, span_all}
-use Rattle.pc_region.specs.Limits.{threads_of, threads_of_all}
+use Rattle.pc_lower.specs.declared.nodes.Step.{Step}
+use Rattle.pc_lower.specs.declared.nodes.Test.{Test}
+use Rattle.pc_lower.specs.Flow.{Node, Nodes, straight, sequence, branch, turns, bounded, call, pause, fork, guard, no_nodes, and}
+use Rattle.pc_lower.specs.Words.{words_in, Writing}
+use Rattle.pc_lower.specs.StepCounts.{Sizes, through, through_all}
+use Rattle.pc_lower.specs.Bounds.{span, span_all}
+use Rattle.pc_lower.specs.Limits.{threads_of, threads_of_all}
 use Rattle.tk_paths.specs.Regions.{Region, from, to, half, behind_half, behind, IsLaid}
 use Rattle.tk_paths.specs.Codes.{Code, entry, exit, IsLaidIn}
 use Rattle.tk_paths.specs.Counts.{words_most, total, region_most, way_most}

@@ -3,11 +3,11 @@ use Rattle.std.proofs.Common.{◌≡◌, ℕ, suc, ◌+◌, Option, Some, None, 
 use Rattle.std.specs.List.{range_with_len}
 use Rattle.mb_isa.specs.declared.words.Instr.{Instr}
 use Rattle.mb_isa.specs.declared.words.Instr.TheVariants.{Bri, Leave}
-use Rattle.pc_ir.specs.declared.nodes.Test.{Test}
-use Rattle.pc_ir.specs.Flow.{Node, Nodes, straight, sequence, branch, turns, bounded, call, pause, fork, guard, no_nodes, and}
-use Rattle.pc_region.specs.Words.{Writing}
-use Rattle.pc_region.specs.Limits.{threads_of}
-use Rattle.pc_region.specs.Layable.{pauses_in, pauses_in_all, forks_of, forks_of_all, guards_of, guards_of_all}
+use Rattle.pc_lower.specs.declared.nodes.Test.{Test}
+use Rattle.pc_lower.specs.Flow.{Node, Nodes, straight, sequence, branch, turns, bounded, call, pause, fork, guard, no_nodes, and}
+use Rattle.pc_lower.specs.Words.{Writing}
+use Rattle.pc_lower.specs.Limits.{threads_of}
+use Rattle.pc_lower.specs.Layable.{pauses_in, pauses_in_all, forks_of, forks_of_all, guards_of, guards_of_all}
 use Rattle.pc_emit.specs.Part.{Part, joined, just}
 use Rattle.pc_emit.specs.Code.{size, test_size, option_size, loop_size, drop_words, jump, option_tested, code, codes}
 use Rattle.pc_emit.proofs.Lists.{IsAt, at_first, at_second, at_moved}

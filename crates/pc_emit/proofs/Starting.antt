@@ -1,12 +1,12 @@
 -- The forks of a function start slots of its own, and a function that holds no pause is the same in every slot.
 use Rattle.std.proofs.Common.{◌≡◌, ℕ, ◌+◌, ◌≤◌, List, [], ◌∷◌, ◌++◌, length, refl, ap, subst, ◌∙◌, arith}
 use Rattle.mb_isa.specs.declared.words.Instr.TheVariants.{Bri, Next}
-use Rattle.pc_ir.specs.Flow.{Node, Nodes, straight, sequence, branch, turns, bounded, call, pause, fork, guard, no_nodes, and, Flows}
-use Rattle.pc_region.specs.Laid.{Placing}
-use Rattle.pc_region.specs.Program.{HasRoom, HaveRoom}
-use Rattle.pc_region.specs.Words.{Writing}
-use Rattle.pc_region.specs.Limits.{threads_of, threads_of_all}
-use Rattle.pc_region.specs.Layable.{IsLayable, AreLayable, IsInstant, AreInstant}
+use Rattle.pc_lower.specs.Flow.{Node, Nodes, straight, sequence, branch, turns, bounded, call, pause, fork, guard, no_nodes, and, Flows}
+use Rattle.pc_lower.specs.Laid.{Placing}
+use Rattle.pc_lower.specs.Program.{HasRoom, HaveRoom}
+use Rattle.pc_lower.specs.Words.{Writing}
+use Rattle.pc_lower.specs.Limits.{threads_of, threads_of_all}
+use Rattle.pc_lower.specs.Layable.{IsLayable, AreLayable, IsInstant, AreInstant}
 use Rattle.pc_emit.specs.Part.{joined, just}
 use Rattle.pc_emit.specs.Code.{loop_size, drop_size, test_size, option_size, size, short, jump, loop_words, drop_words, tested, option_tested, code, codes}
 use Rattle.pc_emit.proofs.Lists.{IsAt, at_first, at_second}

@@ -3,26 +3,26 @@ use Rattle.std.proofs.Common.{◌≡◌, ℕ, ◌+◌, ◌%◌, ◌<◌, ◌≤�
 use Rattle.std.proofs.Common.{slice_get, refl, sym, ap, subst, ◌∙◌, arith, length-append}
 use Rattle.std.specs.Prelude.{slice_index_or}
 use Rattle.std.specs.List.{AllByRecursion}
-use Rattle.pc_region.proofs.Steps.{listed}
+use Rattle.pc_lower.proofs.Steps.{listed}
 use Rattle.std.proofs.lemmas.List.FromFn.{length-range_with_len}
 use Rattle.mb_isa.specs.declared.words.Instr.TheVariants.{Bri, Fork, Eot, Abrt, Leave}
 use Rattle.pt_image.specs.declared.image.AbortLine.{AbortLine}
 use Rattle.pt_image.specs.declared.image.Point.{Point}
 use Rattle.pt_image.specs.declared.image.Parts.{Parts}
 use Rattle.pt_image.specs.Listed.{is_listed}
-use Rattle.pc_ir.specs.declared.nodes.Test.{Test}
-use Rattle.pc_ir.specs.Flow.{Node, Nodes, straight, sequence, branch, turns, bounded, call, pause, fork, guard, no_nodes, and, Flows}
-use Rattle.pc_region.specs.Laid.{Placing}
-use Rattle.pc_region.specs.Program.{HasRoom, HaveRoom}
-use Rattle.pc_region.specs.Words.{Writing}
-use Rattle.pc_region.specs.Limits.{threads_of}
-use Rattle.pc_region.specs.Layable.{IsLayable, AreLayable, pauses_in, pauses_in_all, forks_of, forks_of_all, guards_of, guards_of_all}
-use Rattle.pc_region.specs.Shaped.{IsLasting, AreLasting}
-use Rattle.pc_region.specs.Shaped as shaped
-use Rattle.tk_bound.specs.declared.word.Word.TheVariants.{Jump, Branch}
-use Rattle.tk_bound.specs.declared.word.Word.TheVariants as word
-use Rattle.tk_bound.specs.Kinds.{no_abort}
-use Rattle.tk_bound.proofs.Lists.{all-left, all-right}
+use Rattle.pc_lower.specs.declared.nodes.Test.{Test}
+use Rattle.pc_lower.specs.Flow.{Node, Nodes, straight, sequence, branch, turns, bounded, call, pause, fork, guard, no_nodes, and, Flows}
+use Rattle.pc_lower.specs.Laid.{Placing}
+use Rattle.pc_lower.specs.Program.{HasRoom, HaveRoom}
+use Rattle.pc_lower.specs.Words.{Writing}
+use Rattle.pc_lower.specs.Limits.{threads_of}
+use Rattle.pc_lower.specs.Layable.{IsLayable, AreLayable, pauses_in, pauses_in_all, forks_of, forks_of_all, guards_of, guards_of_all}
+use Rattle.pc_lower.specs.Shaped.{IsLasting, AreLasting}
+use Rattle.pc_lower.specs.Shaped as shaped
+use Rattle.tk_paths.specs.declared.word.Word.TheVariants.{Jump, Branch}
+use Rattle.tk_paths.specs.declared.word.Word.TheVariants as word
+use Rattle.tk_paths.specs.Kinds.{no_abort}
+use Rattle.tk_paths.proofs.Lists.{all-left, all-right}
 use Rattle.tk_paths.specs.Regions.{Region, behind, IsUnit, IsWord}
 use Rattle.tk_paths.specs.Codes.{Code, entry, exit, IsLaidIn}
 use Rattle.tk_paths.specs.Programs.{Section}

@@ -8,19 +8,19 @@ use Rattle.mb_isa.specs.declared.Class.{Class}
 use Rattle.mb_isa.specs.Classes.{class_of}
 use Rattle.mb_pfu.specs.Tree.{Leaf, Finished}
 use Rattle.mb_pfu.specs.Unit.{State}
-use Rattle.mb_step.specs.Control.{Condition, Control, goes, place_of}
-use Rattle.mb_step.specs.Words.{Plan, Go, Work, Refuse, Rest, Conclude, is_barred, goes_to, branched, jump, plan_of}
-use Rattle.mb_step.specs.Words as plan
+use Rattle.mb_isa.specs.Control.{Condition, Control, goes, place_of}
+use Rattle.mb_isa.specs.Words.{Plan, Go, Work, Refuse, Rest, Conclude, is_barred, goes_to, branched, jump, plan_of}
+use Rattle.mb_isa.specs.Words as plan
 use Rattle.pt_image.specs.declared.image.Parts.{Parts}
-use Rattle.tk_bound.specs.declared.word.Word.{Word}
-use Rattle.tk_bound.specs.declared.word.Word.TheVariants.{Does, Jump, Branch}
-use Rattle.tk_bound.specs.declared.word.Word.TheVariants as word
-use Rattle.tk_bound.specs.Words.{goal_of, word_of, instr_in, instr_at, read_instr, read}
-use Rattle.tk_bound.specs.Kinds.{imm_in}
+use Rattle.tk_paths.specs.declared.word.Word.{Word}
+use Rattle.tk_paths.specs.declared.word.Word.TheVariants.{Does, Jump, Branch}
+use Rattle.tk_paths.specs.declared.word.Word.TheVariants as word
+use Rattle.tk_paths.specs.Words.{goal_of, word_of, instr_in, instr_at, read_instr, read}
+use Rattle.tk_paths.specs.Kinds.{imm_in}
 use Rattle.tk_paths.specs.Regions.{behind_half, half, behind, IsUnit, IsWord, AreUnits}
-use Rattle.pc_region.specs.Places.{Has, HasJump, wide, short, HasLoop, wide_loop, short_loop}
-use Rattle.pc_region.specs.Words.{Written, alone, after_imm, IsWork, HasWritten, IsTest, HasBranch, wide_branch, short_branch}
-use Rattle.pc_region.proofs.Steps.{leads-to}
+use Rattle.pc_lower.specs.Places.{Has, HasJump, wide, short, HasLoop, wide_loop, short_loop}
+use Rattle.pc_lower.specs.Words.{Written, alone, after_imm, IsWork, HasWritten, IsTest, HasBranch, wide_branch, short_branch}
+use Rattle.pc_lower.proofs.Steps.{leads-to}
 
 any_unit : State
 any_unit = record { slots = 0; tree = Leaf [] Finished; links = []; counters = [] }

@@ -7,17 +7,17 @@ use Rattle.std.proofs.lemmas.List.FromFn.{length-range_with_len}
 use Rattle.mb_isa.specs.declared.words.Instr.TheVariants.{End, Ret}
 use Rattle.mb_isa.specs.Costs.{IsCosts}
 use Rattle.pt_image.specs.declared.image.Parts.{Parts}
-use Rattle.pc_ir.specs.Flow.{Node, Flow, Flows, flows_of, is_weak}
-use Rattle.pc_ir.specs.Residuals.{body_at}
-use Rattle.pc_region.specs.Places.{slot_start}
-use Rattle.pc_region.specs.Laid.{Placing, HasChildren, Laid}
-use Rattle.pc_region.specs.Counts.{Sizes}
-use Rattle.pc_region.specs.Program.{IsThread, IsRoutine}
-use Rattle.pc_region.specs.Words.{Writing, HasSteps, HasTest}
-use Rattle.pc_region.specs.Limits.{threads_of, started_by}
-use Rattle.pc_region.specs.Image.{IsImageOf}
-use Rattle.pc_region.specs.Numbering.{all_started, AreSlots, slots_of, function_of, parent_of, first_started, HaveSlots}
-use Rattle.pc_region.specs.Layable.{pauses_in, forks_of, guards_of, numbers_in}
+use Rattle.pc_lower.specs.Flow.{Node, Flow, Flows, flows_of, is_weak}
+use Rattle.pc_lower.specs.Residuals.{body_at}
+use Rattle.pc_lower.specs.Places.{slot_start}
+use Rattle.pc_lower.specs.Laid.{Placing, HasChildren, Laid}
+use Rattle.pc_lower.specs.StepCounts.{Sizes}
+use Rattle.pc_lower.specs.Program.{IsThread, IsRoutine}
+use Rattle.pc_lower.specs.Words.{Writing, HasSteps, HasTest}
+use Rattle.pc_lower.specs.Limits.{threads_of, started_by}
+use Rattle.pc_lower.specs.Image.{IsImageOf}
+use Rattle.pc_lower.specs.Numbering.{all_started, AreSlots, slots_of, function_of, parent_of, first_started, HaveSlots}
+use Rattle.pc_lower.specs.Layable.{pauses_in, forks_of, guards_of, numbers_in}
 use Rattle.pc_emit.specs.Part.{Part, joined, just}
 use Rattle.pc_emit.specs.Code.{size, short, code}
 use Rattle.pc_emit.specs.Image.{slot_of, functions_size, function_code, functions_code, conditions_words, entrances_of, whole_of, code_size, image_of}

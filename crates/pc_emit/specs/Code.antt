@@ -4,10 +4,10 @@ use Rattle.std.specs.Int.{w16, cast_signed}
 use Rattle.mb_isa.specs.declared.words.Instr.{Instr}
 use Rattle.mb_isa.specs.declared.words.Instr.TheVariants.{Imm, Bri, Leave, Call, Loop, Next, Drop}
 use Rattle.pt_image.specs.declared.image.Point.{Point}
-use Rattle.pc_ir.specs.declared.nodes.Test.{Test}
-use Rattle.pc_ir.specs.Flow.{Node, Nodes, straight, sequence, branch, turns, bounded, call, pause, fork, guard, no_nodes, and}
-use Rattle.pc_region.specs.Words.{words_in, Writing}
-use Rattle.pc_region.specs.Limits.{threads_of}
+use Rattle.pc_lower.specs.declared.nodes.Test.{Test}
+use Rattle.pc_lower.specs.Flow.{Node, Nodes, straight, sequence, branch, turns, bounded, call, pause, fork, guard, no_nodes, and}
+use Rattle.pc_lower.specs.Words.{words_in, Writing}
+use Rattle.pc_lower.specs.Limits.{threads_of}
 use Rattle.pc_emit.specs.Part.{Part, joined, just, pausing, forking, entering}
 use Rattle.pc_regs.specs.Writings.{instrs}
 

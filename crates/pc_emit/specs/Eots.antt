@@ -4,8 +4,8 @@ use Rattle.mb_isa.specs.declared.words.Instr.TheVariants.{Eot}
 use Rattle.mb_isa.specs.Codes.{code_of}
 use Rattle.pt_image.specs.declared.image.Parts.{Parts}
 use Rattle.pt_image.specs.Ranges.{places_of}
-use Rattle.pc_ir.specs.Flow.{Flow}
-use Rattle.pc_region.specs.Layable.{pauses_in, forks_of, numbers_in}
+use Rattle.pc_lower.specs.Flow.{Flow}
+use Rattle.pc_lower.specs.Layable.{pauses_in, forks_of, numbers_in}
 
 -- the places of the words that are `eot`, in the order of the code, counted from a place
 abbrev pub eots_from : ℕ → List ℕ → List ℕ

@@ -3,15 +3,15 @@ use Rattle.std.specs.Prelude.{ℕ, ◌+◌, ◌≤◌, FitsSigned, length, slice
 use Rattle.std.specs.Int.{w32}
 use Rattle.std.specs.List.{AllByRecursion}
 use Rattle.pt_image.specs.Ranges.{AllBelow}
-use Rattle.pc_ir.specs.declared.nodes.Step.{Step}
-use Rattle.pc_ir.specs.declared.nodes.Test.{Test}
-use Rattle.pc_ir.specs.Flow.{Flow}
-use Rattle.pc_region.specs.Laid.{Placing}
-use Rattle.pc_region.specs.Words.{words_in, Writing}
-use Rattle.pc_region.specs.Counts.{Sizes}
-use Rattle.pc_region.specs.Sizing.{Count}
-use Rattle.pc_region.specs.Numbering.{function_of}
-use Rattle.pc_region.specs.Layable.{CanBeLaid}
+use Rattle.pc_lower.specs.declared.nodes.Step.{Step}
+use Rattle.pc_lower.specs.declared.nodes.Test.{Test}
+use Rattle.pc_lower.specs.Flow.{Flow}
+use Rattle.pc_lower.specs.Laid.{Placing}
+use Rattle.pc_lower.specs.Words.{words_in, Writing}
+use Rattle.pc_lower.specs.StepCounts.{Sizes}
+use Rattle.pc_lower.specs.Sizing.{Count}
+use Rattle.pc_lower.specs.Numbering.{function_of}
+use Rattle.pc_lower.specs.Layable.{CanBeLaid}
 use Rattle.pc_regs.specs.Writings.{WritesWork, FlowWritten}
 use Rattle.pc_emit.specs.Image.{entrances_of, code_size}
 

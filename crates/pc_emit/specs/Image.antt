@@ -5,10 +5,10 @@ use Rattle.mb_isa.specs.declared.words.Instr.TheVariants.{End, Ret, Cend}
 use Rattle.mb_isa.specs.Codes.{code_of}
 use Rattle.pt_image.specs.declared.image.AbortLine.{AbortLine}
 use Rattle.pt_image.specs.declared.image.Parts.{Parts}
-use Rattle.pc_ir.specs.declared.nodes.Test.{Test}
-use Rattle.pc_ir.specs.Flow.{Node, Flow}
-use Rattle.pc_region.specs.Words.{words_in, Writing}
-use Rattle.pc_region.specs.Numbering.{slots_of, first_started}
+use Rattle.pc_lower.specs.declared.nodes.Test.{Test}
+use Rattle.pc_lower.specs.Flow.{Node, Flow}
+use Rattle.pc_lower.specs.Words.{words_in, Writing}
+use Rattle.pc_lower.specs.Numbering.{slots_of, first_started}
 use Rattle.pc_emit.specs.Part.{Part, joined, just}
 use Rattle.pc_regs.specs.Writings.{instrs}
 use Rattle.pc_emit.specs.Code.{size, short, code}

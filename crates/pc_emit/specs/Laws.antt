@@ -3,18 +3,18 @@ use Rattle.std.specs.Prelude.{ℕ, ◌≤◌, List}
 use Rattle.mb_isa.specs.Costs.{IsCosts}
 use Rattle.pt_image.specs.Form.{AreWords}
 use Rattle.pt_image.specs.Ranges.{IsImage}
-use Rattle.pc_ir.specs.Flow.{Flow}
+use Rattle.pc_lower.specs.Flow.{Flow}
 use Rattle.tk_cert.specs.declared.cert.Walk.{Walk}
-use Rattle.tk_bound.specs.Bounded.{IsAcceptedFor}
-use Rattle.tk_bound.specs.Walks.{most_cycles, IsWorst}
+use Rattle.tk_paths.specs.Bounded.{IsAcceptedFor}
+use Rattle.tk_paths.specs.Walks.{most_cycles, IsWorst}
 use Rattle.tk_paths.specs.Programs.{IsProgram, certificate}
 use Rattle.tk_paths.specs.Counts.{AreSmall}
-use Rattle.pc_region.specs.Laid.{Placing}
-use Rattle.pc_region.specs.Counts.{Sizes}
-use Rattle.pc_region.specs.Words.{Writing}
-use Rattle.pc_region.specs.Image.{IsImageOf}
-use Rattle.pc_region.specs.Numbering.{parent_of}
-use Rattle.pc_region.specs.Limits.{IsWithinLimits}
+use Rattle.pc_lower.specs.Laid.{Placing}
+use Rattle.pc_lower.specs.StepCounts.{Sizes}
+use Rattle.pc_lower.specs.Words.{Writing}
+use Rattle.pc_lower.specs.Image.{IsImageOf}
+use Rattle.pc_lower.specs.Numbering.{parent_of}
+use Rattle.pc_lower.specs.Limits.{IsWithinLimits}
 use Rattle.pc_emit.specs.Image.{image_of}
 use Rattle.pc_emit.specs.Sections.{program_of}
 use Rattle.pc_emit.specs.Eots.{ListsAll}

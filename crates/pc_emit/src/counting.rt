@@ -4,7 +4,7 @@ ghost use Rattle.pc_regs.specs.Words.{are_written, is_test_written, steps_words,
 ghost use Rattle.pc_emit.specs.Units.{is_half, units_in};
 
 use mb_isa::Instr;
-use pc_ir::{Step, Test};
+use pc_lower::{Step, Test};
 use pc_regs::{Placement, push_steps, push_test, words_are_work};
 use pt_base::Memory;
 use std::alloc::Global;

@@ -5,7 +5,7 @@ ghost use Rattle.pc_regs.specs.Words.{steps_words, test_words, are_written, is_t
 ghost use Rattle.pc_emit.specs.Part.{joined, just, pausing, forking, entering};
 
 use mb_isa::Instr;
-use pc_ir::{Step, Test};
+use pc_lower::{Step, Test};
 use pc_regs::{Placement, push_steps, push_test};
 use pt_base::{Many, Memory};
 use pt_image::Point;

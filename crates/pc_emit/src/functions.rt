@@ -1,7 +1,7 @@
 ghost use Rattle.std.specs.Prelude.{◌≡◌, ◌+◌, ◌≤◌, [], ◌∷◌, ◌++◌, OnOk, IfOk, length, map};
 ghost use Rattle.std.specs.List.{AllByRecursion};
-ghost use Rattle.pc_ir.specs.Trees.{read, flow_read};
-ghost use Rattle.pc_region.specs.Numbering.{slots_of, first_started};
+ghost use Rattle.pc_lower.specs.Trees.{read, flow_read};
+ghost use Rattle.pc_lower.specs.Numbering.{slots_of, first_started};
 ghost use Rattle.pc_regs.specs.Placement.{IsPlacement};
 ghost use Rattle.pc_regs.specs.Words.{writing_of};
 ghost use Rattle.pc_emit.specs.Part.{joined};
@@ -13,7 +13,7 @@ use crate::nodes::put_node;
 use crate::sizes::{size, sum};
 use crate::slots::{first_started, slot_of};
 use mb_isa::Instr;
-use pc_ir::{Flow, Node};
+use pc_lower::{Flow, Node};
 use pc_regs::Placement;
 use pt_base::Memory;
 use std::alloc::Global;

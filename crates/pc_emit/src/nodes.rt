@@ -1,7 +1,7 @@
 ghost use Rattle.std.specs.Prelude.{◌≡◌, ◌+◌, [], ◌∷◌, ◌++◌, OnOk, IfOk, IsTrue, length};
 ghost use Rattle.mb_isa.specs.declared.words.Instr.TheVariants.{Bri, Next};
-ghost use Rattle.pc_ir.specs.Trees.{read};
-ghost use Rattle.pc_region.specs.Limits.{threads_of};
+ghost use Rattle.pc_lower.specs.Trees.{read};
+ghost use Rattle.pc_lower.specs.Limits.{threads_of};
 ghost use Rattle.pc_regs.specs.Placement.{IsPlacement};
 ghost use Rattle.pc_regs.specs.Words.{is_test_written, writing_of};
 ghost use Rattle.pc_emit.specs.Part.{joined, just};
@@ -12,7 +12,7 @@ use crate::branches::{lower_half, short, upper_half, way};
 use crate::draft::Draft;
 use crate::sizes::{drop_size, loop_size, option_size, size, sum, test_size};
 use mb_isa::Instr;
-use pc_ir::{Node, Test};
+use pc_lower::{Node, Test};
 use pc_regs::{Placement, branch};
 use pt_base::{Many, Memory};
 use pt_image::Point;
@@ -142,7 +142,7 @@ fn deeper(alloc: Global, stack: &[u32], number: u32) -> Result<Vec<u32>, Memory>
 
 /// Puts a node of a slot at the end, inside these aborts. `entrances` are the places where the functions begin; `child` is the
 /// first slot that the node's forks start, and the answer is the first that those behind it start.
-#[tactic(auto, using(pc_ir::proofs::Trees::reads, crate::proofs::Places::places))]
+#[tactic(auto, using(pc_lower::proofs::FlowTrees::reads, crate::proofs::Places::places))]
 pub fn put_node(
     alloc: Global,
     out: &mut Draft,

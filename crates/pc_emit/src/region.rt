@@ -1,6 +1,6 @@
 ghost use Rattle.std.specs.Prelude.{◌≡◌, ◌+◌, IfOk, IsTrue, length};
-ghost use Rattle.pc_ir.specs.Trees.{read};
-ghost use Rattle.pc_region.specs.Words.{words_in};
+ghost use Rattle.pc_lower.specs.Trees.{read};
+ghost use Rattle.pc_lower.specs.Words.{words_in};
 ghost use Rattle.pc_regs.specs.Placement.{IsPlacement};
 ghost use Rattle.pc_regs.specs.Words.{are_written, is_test_written, test_words, writing_of};
 ghost use Rattle.pc_regs.specs.Writings.{OptionWritten, NodeWritten};
@@ -8,7 +8,7 @@ ghost use Rattle.pc_emit.specs.Made.{nowhere, made_straight, made_loop, made_cal
 
 use crate::counting::{count_units, test_units};
 use crate::sizes::{loop_size, option_size, size, sum, test_size};
-use pc_ir::{Node, Step, Test};
+use pc_lower::{Node, Step, Test};
 use pc_regs::{Placement, count_steps, count_test};
 use pt_base::Memory;
 use sqlite_items::{Boxed, Items};
@@ -124,7 +124,7 @@ fn calling(numbers: &[u32], function: u32, at: usize) -> Result<Region, Memory>
 }
 
 /// The region of a node at a place: one of a routine, or of the body of a loop with a number.
-#[tactic(auto, using(pc_ir::proofs::Trees::reads))]
+#[tactic(auto, using(pc_lower::proofs::FlowTrees::reads))]
 pub fn region(
     alloc: Global,
     placement: Placement,

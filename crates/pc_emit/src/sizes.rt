@@ -1,11 +1,11 @@
 ghost use Rattle.std.specs.Prelude.{◌≡◌, ◌+◌, IfOk, IsTrue};
-ghost use Rattle.pc_ir.specs.Trees.{read};
+ghost use Rattle.pc_lower.specs.Trees.{read};
 ghost use Rattle.pc_regs.specs.Placement.{IsPlacement};
 ghost use Rattle.pc_regs.specs.Words.{is_test_written, writing_of};
 ghost use Rattle.pc_emit.specs.Code.{loop_size, drop_size, test_size, option_size, size};
 ghost use Rattle.pc_regs.specs.Writings.{OptionWritten, NodeWritten};
 
-use pc_ir::{Node, Test};
+use pc_lower::{Node, Test};
 use pc_regs::{Placement, count_steps, count_test};
 use pt_base::Memory;
 use std::alloc::Global;
@@ -61,7 +61,7 @@ pub fn option_size(
 }
 
 /// How many words a node takes.
-#[tactic(auto, using(pc_ir::proofs::Trees::reads))]
+#[tactic(auto, using(pc_lower::proofs::FlowTrees::reads))]
 pub fn size(alloc: Global, placement: Placement, node: &Node) -> Result<usize, Memory>
     requires room { IsPlacement placement }
     requires written { NodeWritten (writing_of placement) (read node.now) }

@@ -1,16 +1,16 @@
 ghost use Rattle.std.specs.Prelude.{◌≡◌, ◌+◌, ◌<◌, ◌≤◌, [], ◌∷◌, ◌++◌, OnOk, IfOk, IfSome, length, map, take};
-ghost use Rattle.pc_ir.specs.Trees.{read, all_read};
-ghost use Rattle.pc_region.specs.Limits.{threads_of, threads_of_all, started_by};
-ghost use Rattle.pc_region.specs.Numbering.{all_started, generations};
+ghost use Rattle.pc_lower.specs.Trees.{read, all_read};
+ghost use Rattle.pc_lower.specs.Limits.{threads_of, threads_of_all, started_by};
+ghost use Rattle.pc_lower.specs.Numbering.{all_started, generations};
 ghost use Rattle.pc_emit.specs.Image.{slot_of};
 
-use pc_ir::Node;
+use pc_lower::Node;
 use pt_base::Memory;
 use std::alloc::Global;
 
 // Puts the threads that a node's forks start at the end.
 #[cycle(put_threads)]
-#[tactic(auto, using(pc_ir::proofs::Trees::reads, crate::proofs::Places::places))]
+#[tactic(auto, using(pc_lower::proofs::FlowTrees::reads, crate::proofs::Places::places))]
 fn put_threads(all: &mut Vec<u32>, node: &Node) -> Result<(), Memory>
     ensures { OnOk result (all.new.items ≡ all.old.items ++ threads_of (read node.now)) }
 {
@@ -40,7 +40,7 @@ fn put_threads(all: &mut Vec<u32>, node: &Node) -> Result<(), Memory>
 
 // Puts the threads that nodes start at the end.
 #[cycle(put_threads)]
-#[tactic(auto, using(pc_ir::proofs::Trees::reads, crate::proofs::Places::places))]
+#[tactic(auto, using(pc_lower::proofs::FlowTrees::reads, crate::proofs::Places::places))]
 fn put_all_threads(all: &mut Vec<u32>, nodes: &[Node]) -> Result<(), Memory>
     ensures { OnOk result (all.new.items ≡ all.old.items ++ threads_of_all (all_read nodes.now)) }
 {

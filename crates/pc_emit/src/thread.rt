@@ -1,6 +1,6 @@
 ghost use Rattle.std.specs.Prelude.{◌≡◌, ◌+◌, IfOk, length};
-ghost use Rattle.pc_ir.specs.Trees.{read};
-ghost use Rattle.pc_region.specs.Limits.{threads_of};
+ghost use Rattle.pc_lower.specs.Trees.{read};
+ghost use Rattle.pc_lower.specs.Limits.{threads_of};
 ghost use Rattle.pc_regs.specs.Placement.{IsPlacement};
 ghost use Rattle.pc_regs.specs.Words.{writing_of};
 ghost use Rattle.pc_regs.specs.Writings.{OptionWritten, NodeWritten};
@@ -8,7 +8,7 @@ ghost use Rattle.pc_emit.specs.Made.{made_turns, made_code};
 
 use crate::region::{number, region, tested};
 use crate::sizes::{option_size, size, sum, test_size};
-use pc_ir::{Node, Test};
+use pc_lower::{Node, Test};
 use pc_regs::Placement;
 use pt_base::Memory;
 use sqlite_items::{Boxed, Items};
@@ -50,7 +50,7 @@ fn turning(
 }
 
 /// The code of a thread's node at a place, and the first slot that the nodes behind it start; `child` is the first that this starts.
-#[tactic(auto, using(pc_ir::proofs::Trees::reads, crate::proofs::Making::making))]
+#[tactic(auto, using(pc_lower::proofs::FlowTrees::reads, crate::proofs::Making::making))]
 pub fn code(
     alloc: Global,
     placement: Placement,

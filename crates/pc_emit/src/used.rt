@@ -1,16 +1,16 @@
 ghost use Rattle.std.specs.Prelude.{◌≡◌, ◌++◌, OnOk, IfOk, map};
-ghost use Rattle.pc_ir.specs.Trees.{read, all_read};
+ghost use Rattle.pc_lower.specs.Trees.{read, all_read};
 ghost use Rattle.pc_emit.specs.Sections.{calls_in, calls_in_all, is_among, is_used, counted};
 ghost use Rattle.pc_emit.specs.Made.{calls_from, numbers_by};
 
 use crate::slots::slot_of;
-use pc_ir::Node;
+use pc_lower::Node;
 use pt_base::Memory;
 use std::alloc::Global;
 
 // Puts the functions that a node calls at the end.
 #[cycle(put_calls)]
-#[tactic(auto, using(pc_ir::proofs::Trees::reads, crate::proofs::Callers::callers))]
+#[tactic(auto, using(pc_lower::proofs::FlowTrees::reads, crate::proofs::Callers::callers))]
 fn put_calls(all: &mut Vec<u32>, node: &Node) -> Result<(), Memory>
     ensures { OnOk result (all.new.items ≡ all.old.items ++ calls_in (read node.now)) }
 {
@@ -44,7 +44,7 @@ fn put_calls(all: &mut Vec<u32>, node: &Node) -> Result<(), Memory>
 
 // Puts the functions that nodes call at the end.
 #[cycle(put_calls)]
-#[tactic(auto, using(pc_ir::proofs::Trees::reads, crate::proofs::Callers::callers))]
+#[tactic(auto, using(pc_lower::proofs::FlowTrees::reads, crate::proofs::Callers::callers))]
 fn put_all_calls(all: &mut Vec<u32>, nodes: &[Node]) -> Result<(), Memory>
     ensures { OnOk result (all.new.items ≡ all.old.items ++ calls_in_all (all_read nodes.now)) }
 {

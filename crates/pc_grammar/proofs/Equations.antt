@@ -3,14 +3,14 @@ use Rattle.std.proofs.Common.{◌≡◌, ℕ, Bool, List, [], ◌∷◌, ◌++�
 use Rattle.pt_base.specs.declared.operators.UnOp.{UnOp}
 use Rattle.pt_base.specs.declared.operators.BinOp.{BinOp}
 use Rattle.pt_base.specs.declared.rules.Span.{Span}
-use Rattle.pc_ast.specs.declared.expressions.Word.{Word}
-use Rattle.pc_ast.specs.declared.expressions.Expr.{Expr, fold-roll-Expr}
-use Rattle.pc_ast.specs.declared.expressions.Expr.TheVariants.{Number, Var, Elem, Unary, Chain, rolls-Number, rolls-Var, rolls-Elem, rolls-Unary, rolls-Chain}
-use Rattle.pc_ast.specs.declared.expressions.Expr.TheOpen.{Number as OpenNumber, Var as OpenVar, Elem as OpenElem, Unary as OpenUnary, Chain as OpenChain}
-use Rattle.pc_ast.specs.declared.expressions.Goal.{Goal}
-use Rattle.pc_ast.specs.declared.statements.Stmt.{Stmt, fold-roll-Stmt}
-use Rattle.pc_ast.specs.declared.statements.Stmt.TheVariants.{Skip, Assign, Call, Block, If, While, Eot, Par, Abort, rolls-Skip, rolls-Assign, rolls-Call, rolls-Block, rolls-If, rolls-While, rolls-Eot, rolls-Par, rolls-Abort}
-use Rattle.pc_ast.specs.declared.statements.Stmt.TheOpen.{Skip as OpenSkip, Assign as OpenAssign, Call as OpenCall, Block as OpenBlock, If as OpenIf, While as OpenWhile, Eot as OpenEot, Par as OpenPar, Abort as OpenAbort}
+use Rattle.pc_grammar.specs.declared.expressions.Word.{Word}
+use Rattle.pc_grammar.specs.declared.expressions.Expr.{Expr, fold-roll-Expr}
+use Rattle.pc_grammar.specs.declared.expressions.Expr.TheVariants.{Number, Var, Elem, Unary, Chain, rolls-Number, rolls-Var, rolls-Elem, rolls-Unary, rolls-Chain}
+use Rattle.pc_grammar.specs.declared.expressions.Expr.TheOpen.{Number as OpenNumber, Var as OpenVar, Elem as OpenElem, Unary as OpenUnary, Chain as OpenChain}
+use Rattle.pc_grammar.specs.declared.expressions.Goal.{Goal}
+use Rattle.pc_grammar.specs.declared.statements.Stmt.{Stmt, fold-roll-Stmt}
+use Rattle.pc_grammar.specs.declared.statements.Stmt.TheVariants.{Skip, Assign, Call, Block, If, While, Eot, Par, Abort, rolls-Skip, rolls-Assign, rolls-Call, rolls-Block, rolls-If, rolls-While, rolls-Eot, rolls-Par, rolls-Abort}
+use Rattle.pc_grammar.specs.declared.statements.Stmt.TheOpen.{Skip as OpenSkip, Assign as OpenAssign, Call as OpenCall, Block as OpenBlock, If as OpenIf, While as OpenWhile, Eot as OpenEot, Par as OpenPar, Abort as OpenAbort}
 use Rattle.pc_grammar.specs.Spans.{each, name_spans, expression_spans_of, expression_spans, goal_spans, statement_spans_of, statement_spans}
 
 -- ---- expressions

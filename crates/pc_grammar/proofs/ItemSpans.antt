@@ -1,11 +1,11 @@
 -- The spans of items and programs that tokens spell.
 use Rattle.std.proofs.Common.{ℕ, ℤ, List, [], ◌++◌, Option, length, refl, sym, subst, arith}
-use Rattle.pc_lex.specs.declared.tokens.Token.{Token}
-use Rattle.pc_lex.proofs.Cuts.{known}
-use Rattle.pc_ast.specs.declared.expressions.Word.{Word}
-use Rattle.pc_ast.specs.declared.expressions.Expr.{Expr}
-use Rattle.pc_ast.specs.declared.programs.CellKind.{CellKind}
-use Rattle.pc_ast.specs.declared.programs.Item.{Item}
+use Rattle.pc_grammar.specs.declared.tokens.Token.{Token}
+use Rattle.pc_grammar.proofs.Cuts.{known}
+use Rattle.pc_grammar.specs.declared.expressions.Word.{Word}
+use Rattle.pc_grammar.specs.declared.expressions.Expr.{Expr}
+use Rattle.pc_grammar.specs.declared.programs.CellKind.{CellKind}
+use Rattle.pc_grammar.specs.declared.programs.Item.{Item}
 use Rattle.pc_grammar.specs.declared.frames.Frame.{Frame}
 use Rattle.pc_grammar.specs.Constants.{ended, SpellsStart, positive, negative}
 use Rattle.pc_grammar.specs.Frames.{SpellsParameter, parameter, SpellsParameters, nothing, void, some, SpellsLocal, bare, valued, SpellsLocals, none, more, SpellsFrame, framed}

@@ -1,12 +1,12 @@
 -- The spans of lists and statements that tokens spell.
 use Rattle.std.proofs.Common.{◌≡◌, ℕ, Bool, true, false, List, ◌∷◌, ◌++◌, Option}
 use Rattle.pt_base.specs.declared.rules.Span.{Span}
-use Rattle.pc_lex.specs.declared.tokens.Token.{Token}
-use Rattle.pc_ast.specs.declared.expressions.Word.{Word}
-use Rattle.pc_ast.specs.declared.expressions.Expr.{Expr}
-use Rattle.pc_ast.specs.declared.expressions.Goal.{Goal}
-use Rattle.pc_ast.specs.declared.expressions.Goal.TheVariants.{Nothing, Var, Elem}
-use Rattle.pc_ast.specs.declared.statements.Stmt.{Stmt}
+use Rattle.pc_grammar.specs.declared.tokens.Token.{Token}
+use Rattle.pc_grammar.specs.declared.expressions.Word.{Word}
+use Rattle.pc_grammar.specs.declared.expressions.Expr.{Expr}
+use Rattle.pc_grammar.specs.declared.expressions.Goal.{Goal}
+use Rattle.pc_grammar.specs.declared.expressions.Goal.TheVariants.{Nothing, Var, Elem}
+use Rattle.pc_grammar.specs.declared.statements.Stmt.{Stmt}
 use Rattle.pc_grammar.specs.Expressions.{word_at}
 use Rattle.pc_grammar.specs.Lists.{SpellsMore, none, more, list, SpellsListed, listed, SpellsArguments, no_arguments, some_arguments, SpellsName, name}
 use Rattle.pc_grammar.specs.Settings.{SpellsSetting, value, call, SpellsLoop, free, counted, SpellsTest, test as tested}

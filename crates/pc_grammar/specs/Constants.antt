@@ -1,8 +1,8 @@
 -- Which tokens spell the word that a cell starts with: docs/language.md, "Items".
 use Rattle.std.specs.Prelude.{◌≡◌, ℕ, ℤ, pos, neg_ℤ, List, [], ◌∷◌}
 use Rattle.pt_base.specs.Operators.{word_of}
-use Rattle.pc_lex.specs.declared.tokens.Sort.TheVariants.{Number, Equals, Minus, Semicolon}
-use Rattle.pc_lex.specs.declared.tokens.Token.{Token}
+use Rattle.pc_grammar.specs.declared.tokens.Sort.TheVariants.{Number, Equals, Minus, Semicolon}
+use Rattle.pc_grammar.specs.declared.tokens.Token.{Token}
 
 -- `n ;`
 pub data SpellsEnded : List Token → ℕ → Type 0 where

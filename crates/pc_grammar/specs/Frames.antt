@@ -1,11 +1,11 @@
 -- Which tokens spell parameters, locals, and the frame of a function: docs/language.md, "Items".
 use Rattle.std.specs.Prelude.{◌≡◌, ℕ, List, [], ◌∷◌, ◌++◌, Option, Some, None}
 use Rattle.pt_base.specs.declared.limits.TheConstants.{MOST_EXPRESSION_LEVELS}
-use Rattle.pc_lex.specs.declared.tokens.Sort.TheVariants.{Name, IntWord, VoidWord, OpenParenthesis, CloseParenthesis, OpenBrace, Semicolon}
-use Rattle.pc_lex.specs.declared.tokens.Token.{Token}
-use Rattle.pc_ast.specs.declared.expressions.Word.{Word}
-use Rattle.pc_ast.specs.declared.expressions.Expr.{Expr}
-use Rattle.pc_ast.specs.declared.statements.Stmt.{Stmt}
+use Rattle.pc_grammar.specs.declared.tokens.Sort.TheVariants.{Name, IntWord, VoidWord, OpenParenthesis, CloseParenthesis, OpenBrace, Semicolon}
+use Rattle.pc_grammar.specs.declared.tokens.Token.{Token}
+use Rattle.pc_grammar.specs.declared.expressions.Word.{Word}
+use Rattle.pc_grammar.specs.declared.expressions.Expr.{Expr}
+use Rattle.pc_grammar.specs.declared.statements.Stmt.{Stmt}
 use Rattle.pc_grammar.specs.declared.marks.Pair.TheVariants.{Assignment}
 use Rattle.pc_grammar.specs.Expressions.{word_at, SpellsBetween}
 use Rattle.pc_grammar.specs.Lists.{SpellsListed}

@@ -1,14 +1,14 @@
 -- Which tokens spell an item: docs/language.md, "Items".
 use Rattle.std.specs.Prelude.{◌≡◌, ℕ, ℤ, pos, true, false, List, [], ◌∷◌, ◌++◌, Some, None}
 use Rattle.pt_base.specs.declared.limits.TheConstants.{MOST_EXPRESSION_LEVELS}
-use Rattle.pc_lex.specs.declared.tokens.Sort.TheVariants.{Name, Number, VoidWord, ReactiveInputWord, ReactiveOutputWord, OpenBracket, CloseBracket, CloseBrace, Semicolon}
-use Rattle.pc_lex.specs.declared.tokens.Token.{Token}
-use Rattle.pc_ast.specs.declared.expressions.Word.{Word}
-use Rattle.pc_ast.specs.declared.expressions.Expr.{Expr}
-use Rattle.pc_ast.specs.declared.programs.CellKind.{CellKind}
-use Rattle.pc_ast.specs.declared.programs.CellKind.TheVariants.{Input, Output, Plain}
-use Rattle.pc_ast.specs.declared.programs.Item.{Item}
-use Rattle.pc_ast.specs.declared.programs.Item.TheVariants.{Scalar, Array, Function}
+use Rattle.pc_grammar.specs.declared.tokens.Sort.TheVariants.{Name, Number, VoidWord, ReactiveInputWord, ReactiveOutputWord, OpenBracket, CloseBracket, CloseBrace, Semicolon}
+use Rattle.pc_grammar.specs.declared.tokens.Token.{Token}
+use Rattle.pc_grammar.specs.declared.expressions.Word.{Word}
+use Rattle.pc_grammar.specs.declared.expressions.Expr.{Expr}
+use Rattle.pc_grammar.specs.declared.programs.CellKind.{CellKind}
+use Rattle.pc_grammar.specs.declared.programs.CellKind.TheVariants.{Input, Output, Plain}
+use Rattle.pc_grammar.specs.declared.programs.Item.{Item}
+use Rattle.pc_grammar.specs.declared.programs.Item.TheVariants.{Scalar, Array, Function}
 use Rattle.pc_grammar.specs.declared.marks.Pair.TheVariants.{Result}
 use Rattle.pc_grammar.specs.Expressions.{word_at, SpellsBetween}
 use Rattle.pc_grammar.specs.declared.frames.Frame.{Frame}

@@ -1,3 +1,6 @@
+pub mod Spelling
+pub mod Numbers
+pub mod Lexing
 pub mod Signs
 pub mod Refusing
 pub mod Expressions
@@ -11,3 +14,10 @@ pub mod Items
 pub mod Programs
 pub mod Trees
 pub mod Spans
+pub mod Uses
+pub mod Places
+pub mod Breaking
+pub mod Typing
+pub mod Keeping
+pub mod Finishing
+pub mod Meant

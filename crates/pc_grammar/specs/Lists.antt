@@ -1,9 +1,9 @@
 -- Which tokens spell lists with commas, of whatever X spells: docs/language.md, "Statements".
 use Rattle.std.specs.Prelude.{◌≡◌, ℕ, List, [], ◌∷◌, ◌++◌}
-use Rattle.pc_lex.specs.declared.tokens.Sort.TheVariants.{Name, Comma, OpenParenthesis, CloseParenthesis}
-use Rattle.pc_lex.specs.declared.tokens.Token.{Token}
-use Rattle.pc_ast.specs.declared.expressions.Word.{Word}
-use Rattle.pc_ast.specs.declared.expressions.Expr.{Expr}
+use Rattle.pc_grammar.specs.declared.tokens.Sort.TheVariants.{Name, Comma, OpenParenthesis, CloseParenthesis}
+use Rattle.pc_grammar.specs.declared.tokens.Token.{Token}
+use Rattle.pc_grammar.specs.declared.expressions.Word.{Word}
+use Rattle.pc_grammar.specs.declared.expressions.Expr.{Expr}
 use Rattle.pc_grammar.specs.Expressions.{word_at, IsExpression}
 
 -- more of a list, each behind a comma

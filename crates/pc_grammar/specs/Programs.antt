@@ -6,8 +6,8 @@ use Rattle.pt_base.specs.declared.rules.Rule.TheVariants.{S1}
 use Rattle.pt_base.specs.declared.rules.Span.{Span}
 use Rattle.pt_base.specs.declared.rules.Refusal.{Refusal}
 use Rattle.pt_base.specs.declared.rules.Refusal.TheVariants.{Broken, Memory}
-use Rattle.pc_lex.specs.declared.tokens.Token.{Token}
-use Rattle.pc_ast.specs.declared.programs.Item.{Item}
+use Rattle.pc_grammar.specs.declared.tokens.Token.{Token}
+use Rattle.pc_grammar.specs.declared.programs.Item.{Item}
 use Rattle.pc_grammar.specs.Refusing.{IsRefused}
 use Rattle.pc_grammar.specs.Items.{SpellsItem}
 

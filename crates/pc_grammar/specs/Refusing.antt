@@ -1,7 +1,7 @@
 -- Where a list of tokens is refused, for any relation X of lists of tokens and trees: docs/language.md, "Refused programs".
 use Rattle.std.specs.Prelude.{◌≡◌, ℕ, List, [], ◌∷◌, ◌++◌, Option, Some, None, length}
-use Rattle.pc_lex.specs.declared.tokens.Sort.{Sort}
-use Rattle.pc_lex.specs.declared.tokens.Token.{Token}
+use Rattle.pc_grammar.specs.declared.tokens.Sort.{Sort}
+use Rattle.pc_grammar.specs.declared.tokens.Token.{Token}
 
 -- what comes next
 abbrev pub first : List Token → Option Sort

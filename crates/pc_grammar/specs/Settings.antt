@@ -1,13 +1,13 @@
 -- Which tokens spell what a goal is set to, the head of a loop, and the condition of an abort: docs/language.md, "Statements".
 use Rattle.std.specs.Prelude.{◌≡◌, ℕ, List, [], ◌∷◌, ◌++◌, Option, Some, None}
 use Rattle.pt_base.specs.declared.limits.TheConstants.{MOST_EXPRESSION_LEVELS}
-use Rattle.pc_lex.specs.declared.tokens.Sort.TheVariants.{Name, Number, Equals, Semicolon, Hash, WhenWord, PreWord}
-use Rattle.pc_lex.specs.declared.tokens.Token.{Token}
-use Rattle.pc_ast.specs.declared.expressions.Word.{Word}
-use Rattle.pc_ast.specs.declared.expressions.Expr.{Expr}
-use Rattle.pc_ast.specs.declared.expressions.Goal.{Goal}
-use Rattle.pc_ast.specs.declared.statements.Stmt.{Stmt}
-use Rattle.pc_ast.specs.declared.statements.Stmt.TheVariants.{Assign, Call}
+use Rattle.pc_grammar.specs.declared.tokens.Sort.TheVariants.{Name, Number, Equals, Semicolon, Hash, WhenWord, PreWord}
+use Rattle.pc_grammar.specs.declared.tokens.Token.{Token}
+use Rattle.pc_grammar.specs.declared.expressions.Word.{Word}
+use Rattle.pc_grammar.specs.declared.expressions.Expr.{Expr}
+use Rattle.pc_grammar.specs.declared.expressions.Goal.{Goal}
+use Rattle.pc_grammar.specs.declared.statements.Stmt.{Stmt}
+use Rattle.pc_grammar.specs.declared.statements.Stmt.TheVariants.{Assign, Call}
 use Rattle.pc_grammar.specs.declared.marks.Pair.TheVariants.{Parentheses, Assignment}
 use Rattle.pc_grammar.specs.Expressions.{word_at, SpellsBetween}
 use Rattle.pc_grammar.specs.Lists.{SpellsArguments}

@@ -5,8 +5,8 @@ use Rattle.pt_base.specs.declared.operators.UnOp.{UnOp}
 use Rattle.pt_base.specs.declared.operators.UnOp.TheVariants.{Neg, Not, Flip}
 use Rattle.pt_base.specs.declared.operators.BinOp.{BinOp}
 use Rattle.pt_base.specs.declared.operators.BinOp.TheVariants.{Or, And, BitOr, BitXor, BitAnd, Equal, NotEqual, Less, LessEqual, Greater, GreaterEqual, ShiftLeft, ShiftRight, Add, Sub, Mul, Div, Rem}
-use Rattle.pc_lex.specs.declared.tokens.Sort.{Sort}
-use Rattle.pc_lex.specs.declared.tokens.Sort.TheVariants.{Name, Number, IntWord, ElseWord, ReturnWord, AbortWord, WhenWord, PreWord, DoubleLeftAngle, DoubleRightAngle, LeftAngleEquals, RightAngleEquals, DoubleEquals, BangEquals, DoubleAmpersand, DoubleBar, OpenParenthesis, CloseParenthesis, OpenBrace, CloseBrace, OpenBracket, CloseBracket, Semicolon, Comma, Equals, Plus, Minus, Star, Slash, Percent, LeftAngle, RightAngle, Bang, Tilde, Ampersand, Bar, Caret, Hash}
+use Rattle.pc_grammar.specs.declared.tokens.Sort.{Sort}
+use Rattle.pc_grammar.specs.declared.tokens.Sort.TheVariants.{Name, Number, IntWord, ElseWord, ReturnWord, AbortWord, WhenWord, PreWord, DoubleLeftAngle, DoubleRightAngle, LeftAngleEquals, RightAngleEquals, DoubleEquals, BangEquals, DoubleAmpersand, DoubleBar, OpenParenthesis, CloseParenthesis, OpenBrace, CloseBrace, OpenBracket, CloseBracket, Semicolon, Comma, Equals, Plus, Minus, Star, Slash, Percent, LeftAngle, RightAngle, Bang, Tilde, Ampersand, Bar, Caret, Hash}
 use Rattle.pc_grammar.specs.declared.marks.Mark.{Mark}
 use Rattle.pc_grammar.specs.declared.marks.Mark.TheVariants.{OpenParenthesis as OpenParenthesisMark, CloseParenthesis as CloseParenthesisMark, OpenBracket as OpenBracketMark, CloseBracket as CloseBracketMark, OpenBrace as OpenBraceMark, CloseBrace as CloseBraceMark, Equals as EqualsMark, Semicolon as SemicolonMark, Comma as CommaMark, Hash as HashMark, IntWord as IntMark, ElseWord as ElseMark, ReturnWord as ReturnMark, AbortWord as AbortMark, WhenWord as WhenMark, PreWord as PreMark}
 use Rattle.pc_grammar.specs.declared.marks.Pair.{Pair}

@@ -1,13 +1,13 @@
 -- Which tokens spell a statement that holds no statement: docs/language.md, "Statements".
 use Rattle.std.specs.Prelude.{◌≡◌, ℕ, List, [], ◌∷◌, ◌++◌}
 use Rattle.pt_base.specs.declared.limits.TheConstants.{MOST_EXPRESSION_LEVELS}
-use Rattle.pc_lex.specs.declared.tokens.Sort.TheVariants.{Name, Semicolon, EotWord, ParWord}
-use Rattle.pc_lex.specs.declared.tokens.Token.{Token}
-use Rattle.pc_ast.specs.declared.expressions.Word.{Word}
-use Rattle.pc_ast.specs.declared.expressions.Expr.{Expr}
-use Rattle.pc_ast.specs.declared.expressions.Goal.TheVariants.{Nothing, Var, Elem}
-use Rattle.pc_ast.specs.declared.statements.Stmt.{Stmt}
-use Rattle.pc_ast.specs.declared.statements.Stmt.TheVariants.{Skip, Call, Eot, Par}
+use Rattle.pc_grammar.specs.declared.tokens.Sort.TheVariants.{Name, Semicolon, EotWord, ParWord}
+use Rattle.pc_grammar.specs.declared.tokens.Token.{Token}
+use Rattle.pc_grammar.specs.declared.expressions.Word.{Word}
+use Rattle.pc_grammar.specs.declared.expressions.Expr.{Expr}
+use Rattle.pc_grammar.specs.declared.expressions.Goal.TheVariants.{Nothing, Var, Elem}
+use Rattle.pc_grammar.specs.declared.statements.Stmt.{Stmt}
+use Rattle.pc_grammar.specs.declared.statements.Stmt.TheVariants.{Skip, Call, Eot, Par}
 use Rattle.pc_grammar.specs.declared.marks.Pair.TheVariants.{Brackets}
 use Rattle.pc_grammar.specs.Expressions.{word_at, SpellsBetween}
 use Rattle.pc_grammar.specs.Lists.{SpellsListed, SpellsName, SpellsArguments}

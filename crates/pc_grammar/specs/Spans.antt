@@ -1,15 +1,15 @@
 -- The spans of a program, in the order of the text: docs/language.md, "Spans".
 use Rattle.std.specs.Prelude.{ℕ, ◌<◌, ◌≤◌, List, [], ◌∷◌, ◌++◌, Option, Some, None}
 use Rattle.pt_base.specs.declared.rules.Span.{Span}
-use Rattle.pc_ast.specs.declared.expressions.Word.{Word}
-use Rattle.pc_ast.specs.declared.expressions.Expr.{Expr, fold-Expr}
-use Rattle.pc_ast.specs.declared.expressions.Expr.TheOpen.{Expr-F, Number, Var, Elem, Unary, Chain}
-use Rattle.pc_ast.specs.declared.expressions.Goal.{Goal}
-use Rattle.pc_ast.specs.declared.expressions.Goal.TheVariants.{Nothing, Var as GoalVar, Elem as GoalElem}
-use Rattle.pc_ast.specs.declared.statements.Stmt.{Stmt, fold-Stmt}
-use Rattle.pc_ast.specs.declared.statements.Stmt.TheOpen.{Stmt-F, Skip, Assign, Call, Block, If, While, Eot, Par, Abort}
-use Rattle.pc_ast.specs.declared.programs.Item.{Item}
-use Rattle.pc_ast.specs.declared.programs.Item.TheVariants.{Scalar, Array, Function}
+use Rattle.pc_grammar.specs.declared.expressions.Word.{Word}
+use Rattle.pc_grammar.specs.declared.expressions.Expr.{Expr, fold-Expr}
+use Rattle.pc_grammar.specs.declared.expressions.Expr.TheOpen.{Expr-F, Number, Var, Elem, Unary, Chain}
+use Rattle.pc_grammar.specs.declared.expressions.Goal.{Goal}
+use Rattle.pc_grammar.specs.declared.expressions.Goal.TheVariants.{Nothing, Var as GoalVar, Elem as GoalElem}
+use Rattle.pc_grammar.specs.declared.statements.Stmt.{Stmt, fold-Stmt}
+use Rattle.pc_grammar.specs.declared.statements.Stmt.TheOpen.{Stmt-F, Skip, Assign, Call, Block, If, While, Eot, Par, Abort}
+use Rattle.pc_grammar.specs.declared.programs.Item.{Item}
+use Rattle.pc_grammar.specs.declared.programs.Item.TheVariants.{Scalar, Array, Function}
 use Rattle.pc_grammar.specs.Trees.{Program, IsTree}
 
 -- the spans of each of a list, one after another

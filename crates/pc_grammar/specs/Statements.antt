@@ -1,12 +1,12 @@
 -- Which tokens spell which statement: docs/language.md, "Statements".
 use Rattle.std.specs.Prelude.{◌≡◌, ℕ, suc, Bool, true, false, List, [], ◌∷◌, ◌++◌, Option, Some, None}
 use Rattle.pt_base.specs.declared.limits.TheConstants.{MOST_EXPRESSION_LEVELS, MOST_STATEMENT_LEVELS}
-use Rattle.pc_lex.specs.declared.tokens.Sort.TheVariants.{IfWord, ElseWord, WhileWord, AbortWord, WeakWord, OpenBrace, CloseBrace}
-use Rattle.pc_lex.specs.declared.tokens.Token.{Token}
-use Rattle.pc_ast.specs.declared.expressions.Word.{Word}
-use Rattle.pc_ast.specs.declared.expressions.Expr.{Expr}
-use Rattle.pc_ast.specs.declared.statements.Stmt.{Stmt}
-use Rattle.pc_ast.specs.declared.statements.Stmt.TheVariants.{Block, If, While, Abort}
+use Rattle.pc_grammar.specs.declared.tokens.Sort.TheVariants.{IfWord, ElseWord, WhileWord, AbortWord, WeakWord, OpenBrace, CloseBrace}
+use Rattle.pc_grammar.specs.declared.tokens.Token.{Token}
+use Rattle.pc_grammar.specs.declared.expressions.Word.{Word}
+use Rattle.pc_grammar.specs.declared.expressions.Expr.{Expr}
+use Rattle.pc_grammar.specs.declared.statements.Stmt.{Stmt}
+use Rattle.pc_grammar.specs.declared.statements.Stmt.TheVariants.{Block, If, While, Abort}
 use Rattle.pc_grammar.specs.declared.marks.Pair.TheVariants.{Parentheses}
 use Rattle.pc_grammar.specs.Expressions.{SpellsBetween}
 use Rattle.pc_grammar.specs.Settings.{SpellsLoop, SpellsTest}

@@ -1,10 +1,10 @@
 -- What a program is, whoever holds it: docs/language.md, "Items".
 use Rattle.std.specs.Prelude.{◌≡◌, ℕ, List, length, refl}
 use Rattle.std.specs.Coded.{Coded, code_by, coded×, coded_ℕ, coded_list}
-use Rattle.pc_lex.specs.declared.tokens.Token.{Token}
-use Rattle.pc_lex.specs.Lexing.{Lexes, whole}
-use Rattle.pc_ast.specs.declared.programs.Item.{Item}
-use Rattle.pc_ast.specs.contracts.programs.Item as item
+use Rattle.pc_grammar.specs.declared.tokens.Token.{Token}
+use Rattle.pc_grammar.specs.Lexing.{Lexes, whole}
+use Rattle.pc_grammar.specs.declared.programs.Item.{Item}
+use Rattle.pc_grammar.specs.contracts.programs.Item as item
 use Rattle.pc_grammar.specs.Programs.{IsProgram}
 
 -- the items of a source in order, and the number of its bytes

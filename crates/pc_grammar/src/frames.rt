@@ -1,4 +1,5 @@
-use pc_ast::{Expr, Stmt, Word};
+use crate::expressions::{Expr, Word};
+use crate::statements::Stmt;
 use sqlite_items::Items;
 
 /// The parameters, locals and statements of a function.

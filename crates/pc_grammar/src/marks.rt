@@ -1,7 +1,7 @@
 ghost use Rattle.std.specs.Prelude.{◌≡◌, IsTrue, ◌↔◌};
 ghost use Rattle.pc_grammar.specs.Signs.{sort_of, opens_of, closes_of, opening_of, binary_in, unary_in, level_of};
 
-use pc_lex::Sort;
+use crate::tokens::Sort;
 use pt_base::{BinOp, UnOp};
 
 /// How many levels of operators there are.

@@ -1,7 +1,7 @@
 ghost use Rattle.std.specs.Prelude.{◌≡◌};
 ghost use Rattle.pc_grammar.specs.Trees.{IsTree};
 
-use pc_ast::Item;
+use crate::programs::Item;
 use sqlite_items::Items;
 use std::marker::Model;
 

@@ -5,24 +5,24 @@ use Rattle.std.proofs.lemmas.Bool.{eqb-true}
 use Rattle.std.proofs.lemmas.List.{length-map}
 use Rattle.pt_base.proofs.Elements.{in_head, in_tail, in_cases, in_none, in_left, in_right, in_either}
 use Rattle.pt_base.specs.declared.operators.BinOp.{BinOp}
-use Rattle.pc_ast.specs.declared.expressions.Word.{Word}
-use Rattle.pc_ast.specs.declared.expressions.Expr.{Expr}
-use Rattle.pc_ast.specs.declared.expressions.Expr.TheFolds.{fold-roll-Expr, ind-Expr, map-Expr}
-use Rattle.pc_ast.specs.declared.expressions.Expr.TheViews.{roll-Expr}
-use Rattle.pc_ast.specs.declared.expressions.Expr.TheOpen.{Expr-F, Number, Var, Elem, Unary, Chain}
-use Rattle.pc_ast.specs.declared.programs.CellKind.{CellKind}
-use Rattle.pc_ast.specs.declared.programs.CellKind.TheVariants.{Parameter, Local}
-use Rattle.pc_ast.specs.declared.programs.Item.{Item}
-use Rattle.pc_ast.specs.declared.programs.Item.TheVariants.{Scalar, Array, Function as FunctionItem}
-use Rattle.pc_typed.specs.declared.roles.Role.TheVariants.{Reads, ReadsElement}
-use Rattle.pc_typed.specs.declared.typed.Cell.{Cell}
-use Rattle.pc_typed.specs.declared.typed.Function.{Function}
-use Rattle.pc_typed.specs.Uses.{Use, use_of, operands_uses, expression_step, expression_uses}
-use Rattle.pc_typed.specs.Places.{names_of}
-use Rattle.pc_typed.specs.Typing.{Typing, cell_of, item_cells, cells_of, functions_in, numbers_from, typed_locals, typed_item}
-use Rattle.pc_typed.specs.Meant.{is_item_kind, is_array_kind, own_cells, NamesCell, IsMeant}
-use Rattle.pc_typed.proofs.Cuts.{get_left, get_right, in_map}
-use Rattle.pc_typed.proofs.Standing.{cells_append, functions_append}
+use Rattle.pc_grammar.specs.declared.expressions.Word.{Word}
+use Rattle.pc_grammar.specs.declared.expressions.Expr.{Expr}
+use Rattle.pc_grammar.specs.declared.expressions.Expr.TheFolds.{fold-roll-Expr, ind-Expr, map-Expr}
+use Rattle.pc_grammar.specs.declared.expressions.Expr.TheViews.{roll-Expr}
+use Rattle.pc_grammar.specs.declared.expressions.Expr.TheOpen.{Expr-F, Number, Var, Elem, Unary, Chain}
+use Rattle.pc_grammar.specs.declared.programs.CellKind.{CellKind}
+use Rattle.pc_grammar.specs.declared.programs.CellKind.TheVariants.{Parameter, Local}
+use Rattle.pc_grammar.specs.declared.programs.Item.{Item}
+use Rattle.pc_grammar.specs.declared.programs.Item.TheVariants.{Scalar, Array, Function as FunctionItem}
+use Rattle.pc_grammar.specs.declared.roles.Role.TheVariants.{Reads, ReadsElement}
+use Rattle.pc_grammar.specs.declared.typed.Cell.{Cell}
+use Rattle.pc_grammar.specs.declared.typed.Function.{Function}
+use Rattle.pc_grammar.specs.Uses.{Use, use_of, operands_uses, expression_step, expression_uses}
+use Rattle.pc_grammar.specs.Places.{names_of}
+use Rattle.pc_grammar.specs.Typing.{Typing, cell_of, item_cells, cells_of, functions_in, numbers_from, typed_locals, typed_item}
+use Rattle.pc_grammar.specs.Meant.{is_item_kind, is_array_kind, own_cells, NamesCell, IsMeant}
+use Rattle.pc_grammar.proofs.FirstPassing.{get_left, get_right, in_map}
+use Rattle.pc_grammar.proofs.Standing.{cells_append, functions_append}
 use Rattle.pc_meaning.specs.declared.places.Room.{Room}
 use Rattle.pc_meaning.specs.Tree.{Expression}
 use Rattle.pc_meaning.specs.Programs.{rooms_from, rooms_of, room_at, place_of, expression_of}

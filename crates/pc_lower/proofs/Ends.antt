@@ -5,8 +5,8 @@ use Rattle.pc_meaning.specs.Tree.{Expression, Statements, Routine, none, each}
 use Rattle.pc_meaning.specs.Values.{Store, holds}
 use Rattle.pc_meaning.specs.Outcomes.{Residual, Threads, in_par, no_more, ended, paused, Outcome, Done, Paused, store_of, before_rest, followed, aborting, fired_or_aborting, Side, and_side, beside, all_ended, joined}
 use Rattle.pc_meaning.specs.Statements.{turning}
-use Rattle.pc_ir.specs.declared.nodes.Test.{Test}
-use Rattle.pc_ir.specs.Flow.{State, tested, decides, Nodes, Rest, within, group, over, going, End, Through, Halted, state_of, later, then_do, in_guard, fired_or_in_guard, Group, and_group, work, all_over, settle, looping}
+use Rattle.pc_lower.specs.declared.nodes.Test.{Test}
+use Rattle.pc_lower.specs.Flow.{State, tested, decides, Nodes, Rest, within, group, over, going, End, Through, Halted, state_of, later, then_do, in_guard, fired_or_in_guard, Group, and_group, work, all_over, settle, looping}
 use Rattle.pc_lower.specs.Lowered.{nodes_of, rest_of, rests_of}
 use Rattle.pc_lower.specs.Laws.{Same, SameFrom}
 

@@ -2,18 +2,18 @@
 use Rattle.std.proofs.Common.{◌≡◌, ℕ, zero, suc, ◌<◌, Bool, true, List, [], ◌∷◌, map, length, Option, Some, None, refl, sym, ap, subst}
 use Rattle.std.specs.Prelude.{Contains, slice_get}
 use Rattle.pt_base.proofs.Elements.{in_head, in_tail, in_left, in_right}
-use Rattle.pc_ast.specs.declared.expressions.Expr.{Expr}
-use Rattle.pc_ast.specs.declared.expressions.Goal.{Goal}
-use Rattle.pc_ast.specs.declared.expressions.Goal.TheVariants.{Nothing, Var as GoalVar, Elem as GoalElem}
-use Rattle.pc_ast.specs.declared.statements.Stmt.{Stmt}
-use Rattle.pc_ast.specs.declared.statements.Stmt.TheFolds.{fold-roll-Stmt, ind-Stmt, map-Stmt}
-use Rattle.pc_ast.specs.declared.statements.Stmt.TheViews.{roll-Stmt}
-use Rattle.pc_ast.specs.declared.statements.Stmt.TheOpen.{Stmt-F, Skip, Assign, Call, Block, If, While, Eot, Par, Abort}
-use Rattle.pc_typed.specs.declared.roles.Role.TheVariants.{Calls, Starts}
-use Rattle.pc_typed.specs.declared.typed.Function.{Function}
-use Rattle.pc_typed.specs.Uses.{Use, use_of, joined, expression_uses, expressions_uses, goal_uses, is_taken, statement_step, statement_uses, statements_uses}
-use Rattle.pc_typed.specs.Typing.{Typing}
-use Rattle.pc_typed.specs.Meant.{NamesRoutine, NamesThread, IsMeant}
+use Rattle.pc_grammar.specs.declared.expressions.Expr.{Expr}
+use Rattle.pc_grammar.specs.declared.expressions.Goal.{Goal}
+use Rattle.pc_grammar.specs.declared.expressions.Goal.TheVariants.{Nothing, Var as GoalVar, Elem as GoalElem}
+use Rattle.pc_grammar.specs.declared.statements.Stmt.{Stmt}
+use Rattle.pc_grammar.specs.declared.statements.Stmt.TheFolds.{fold-roll-Stmt, ind-Stmt, map-Stmt}
+use Rattle.pc_grammar.specs.declared.statements.Stmt.TheViews.{roll-Stmt}
+use Rattle.pc_grammar.specs.declared.statements.Stmt.TheOpen.{Stmt-F, Skip, Assign, Call, Block, If, While, Eot, Par, Abort}
+use Rattle.pc_grammar.specs.declared.roles.Role.TheVariants.{Calls, Starts}
+use Rattle.pc_grammar.specs.declared.typed.Function.{Function}
+use Rattle.pc_grammar.specs.Uses.{Use, use_of, joined, expression_uses, expressions_uses, goal_uses, is_taken, statement_step, statement_uses, statements_uses}
+use Rattle.pc_grammar.specs.Typing.{Typing}
+use Rattle.pc_grammar.specs.Meant.{NamesRoutine, NamesThread, IsMeant}
 use Rattle.pc_meaning.specs.declared.places.Room.{Room}
 use Rattle.pc_meaning.specs.Tree.{Expression, Statement, Statements, skip, assign, call_of, block, if_so, repeat, loop, eot, par, abort, none, each, Routine}
 use Rattle.pc_meaning.specs.Statements.{routine_at}

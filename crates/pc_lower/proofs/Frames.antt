@@ -2,17 +2,17 @@
 -- the grammar nests them.
 use Rattle.std.proofs.Common.{◌≡◌, ℕ, Bool, List, [], ◌∷◌, ◌++◌, Option, refl}
 use Rattle.std.specs.Prelude.{is_some}
-use Rattle.pc_lex.specs.declared.tokens.Token.{Token}
-use Rattle.pc_ast.specs.declared.expressions.Word.{Word}
-use Rattle.pc_ast.specs.declared.expressions.Expr.{Expr}
-use Rattle.pc_ast.specs.declared.statements.Stmt.{Stmt}
-use Rattle.pc_ast.specs.declared.programs.CellKind.{CellKind}
-use Rattle.pc_ast.specs.declared.programs.Item.{Item}
-use Rattle.pc_ast.specs.declared.programs.Item.TheVariants.{Scalar, Array, Function as FunctionItem}
+use Rattle.pc_grammar.specs.declared.tokens.Token.{Token}
+use Rattle.pc_grammar.specs.declared.expressions.Word.{Word}
+use Rattle.pc_grammar.specs.declared.expressions.Expr.{Expr}
+use Rattle.pc_grammar.specs.declared.statements.Stmt.{Stmt}
+use Rattle.pc_grammar.specs.declared.programs.CellKind.{CellKind}
+use Rattle.pc_grammar.specs.declared.programs.Item.{Item}
+use Rattle.pc_grammar.specs.declared.programs.Item.TheVariants.{Scalar, Array, Function as FunctionItem}
 use Rattle.pc_grammar.specs.Frames.{bare, valued, SpellsLocals, none as no_locals, more as more_locals, framed}
 use Rattle.pc_grammar.specs.Items.{SpellsReactive, reactive, SpellsFunction, function, SpellsNamedItem, plain, started, array, giving, SpellsItem, input, output, named, routine}
 use Rattle.pc_grammar.specs.Programs.{IsProgram, none as no_items, more as more_items}
-use Rattle.pc_typed.specs.Typing.{cell_number, numbered_value, typed_locals}
+use Rattle.pc_grammar.specs.Typing.{cell_number, numbered_value, typed_locals}
 use Rattle.pc_meaning.specs.declared.places.Room.{Room}
 use Rattle.pc_meaning.specs.Programs.{Numbering, optional, locals_of}
 use Rattle.pc_lower.specs.Counts.{SomeNested, StatementsNested, LocalsNested}

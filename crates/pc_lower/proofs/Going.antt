@@ -5,8 +5,8 @@ use Rattle.pc_meaning.specs.Tree.{Expression, Statement, Statements, skip, assig
 use Rattle.pc_meaning.specs.Values.{Store, value, holds}
 use Rattle.pc_meaning.specs.Outcomes.{Residual, Threads, here, seq, in_abort, in_par, no_more, ended, paused, Outcome, Done, Paused, before_rest, followed, aborting, fired_or_aborting, Side, and_side, beside, all_ended, joined}
 use Rattle.pc_meaning.specs.Statements.{routine_at, Known, known_at, starting, start, start_all, resume, resuming}
-use Rattle.pc_ir.specs.declared.nodes.Place.TheVariants.{Temp as temp}
-use Rattle.pc_ir.specs.Flow.{State, Through, Flows, state_of, flow_at, go_all, again, agains, fired_or_in_guard}
+use Rattle.pc_lower.specs.declared.nodes.Place.TheVariants.{Temp as temp}
+use Rattle.pc_lower.specs.Flow.{State, Through, Flows, state_of, flow_at, go_all, again, agains, fired_or_in_guard}
 use Rattle.pc_lower.specs.Lowered.{nodes_of, rest_of, rests_of}
 use Rattle.pc_meaning.specs.Promises.{AllBelow}
 use Rattle.pc_lower.specs.Sound.{Fits, AllFit, RestFits, RestsFit}

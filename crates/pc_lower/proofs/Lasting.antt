@@ -4,16 +4,16 @@ use Rattle.std.specs.Prelude.{Contains, slice_get, unwrap_or}
 use Rattle.std.specs.List.{list_all}
 use Rattle.pt_base.proofs.Elements.{in_head, in_tail, in_left, in_right}
 use Rattle.pt_base.specs.declared.rules.Span.{Span}
-use Rattle.pc_ast.specs.declared.statements.Stmt.{Stmt, para-roll-Stmt}
-use Rattle.pc_ast.specs.declared.statements.Stmt.TheFolds.{fold-roll-Stmt, ind-Stmt, map-Stmt}
-use Rattle.pc_ast.specs.declared.statements.Stmt.TheViews.{roll-Stmt}
-use Rattle.pc_ast.specs.declared.statements.Stmt.TheOpen.{Stmt-F, Skip, Assign, Call, Block, If, While, Eot, Par, Abort}
-use Rattle.pc_typed.specs.declared.typed.Function.{Function}
-use Rattle.pc_typed.specs.Typing.{Typing}
-use Rattle.pc_typed.specs.Keeping.{IsTyped}
-use Rattle.pc_typed.specs.Uses.{joined, holds_pause}
-use Rattle.pc_typed.specs.Finishing as typed
-use Rattle.pc_typed.proofs.Cuts.{is_false}
+use Rattle.pc_grammar.specs.declared.statements.Stmt.{Stmt, para-roll-Stmt}
+use Rattle.pc_grammar.specs.declared.statements.Stmt.TheFolds.{fold-roll-Stmt, ind-Stmt, map-Stmt}
+use Rattle.pc_grammar.specs.declared.statements.Stmt.TheViews.{roll-Stmt}
+use Rattle.pc_grammar.specs.declared.statements.Stmt.TheOpen.{Stmt-F, Skip, Assign, Call, Block, If, While, Eot, Par, Abort}
+use Rattle.pc_grammar.specs.declared.typed.Function.{Function}
+use Rattle.pc_grammar.specs.Typing.{Typing}
+use Rattle.pc_grammar.specs.Keeping.{IsTyped}
+use Rattle.pc_grammar.specs.Uses.{joined, holds_pause}
+use Rattle.pc_grammar.specs.Finishing as typed
+use Rattle.pc_grammar.proofs.FirstPassing.{is_false}
 use Rattle.pc_rules.specs.Nests.{Nest, Loop, Aborted, one_more, all_nests, nests_step, nests, function_nests, program_nests}
 use Rattle.pc_rules.specs.Judging.{may_finish, pauses as may_pause, IsWithin}
 use Rattle.pc_meaning.specs.declared.places.Room.{Room}

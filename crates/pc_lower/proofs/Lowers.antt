@@ -1,9 +1,9 @@
 -- What is promised of a flow in memory that is the flow of a program.
 use Rattle.std.proofs.Common.{◌≡◌, ℕ, ◌+◌, ◌≤◌, ℤ, Bool, List, [], map, sym, ap, subst, ◌∙◌, arith}
-use Rattle.pc_typed.specs.declared.typed.Cell.{Cell}
-use Rattle.pc_typed.specs.declared.typed.Function.{Function}
-use Rattle.pc_typed.specs.Typing.{Typing}
-use Rattle.pc_typed.specs.Keeping.{IsTyped}
+use Rattle.pc_grammar.specs.declared.typed.Cell.{Cell}
+use Rattle.pc_grammar.specs.declared.typed.Function.{Function}
+use Rattle.pc_grammar.specs.Typing.{Typing}
+use Rattle.pc_grammar.specs.Keeping.{IsTyped}
 use Rattle.pc_rules.specs.Known.{known_of}
 use Rattle.pc_rules.specs.Weights.{passages, program_weight}
 use Rattle.pc_meaning.specs.Tree.{Routine}
@@ -11,10 +11,10 @@ use Rattle.pc_meaning.specs.declared.places.Room.{Room}
 use Rattle.pc_meaning.specs.Lefts.{routines_of}
 use Rattle.pc_meaning.specs.Runs.{meaning_of}
 use Rattle.pc_meaning.specs.Programs.{rooms_of, declared_of, chosen, is_input, is_output, program_of}
-use Rattle.pc_ir.specs.declared.flow.Flow.{Flow as Kept}
-use Rattle.pc_ir.specs.declared.nodes.Test.{Test}
-use Rattle.pc_ir.specs.Flow.{Node, Flow, Temps, run_of}
-use Rattle.pc_ir.specs.Trees.{read, pairs_of, flow_read}
+use Rattle.pc_lower.specs.declared.flow.Flow.{Flow as Kept}
+use Rattle.pc_lower.specs.declared.nodes.Test.{Test}
+use Rattle.pc_lower.specs.Flow.{Node, Flow, Temps, run_of}
+use Rattle.pc_lower.specs.Trees.{read, pairs_of, flow_read}
 use Rattle.pc_lower.specs.Aborts.{aborts_of}
 use Rattle.pc_lower.specs.Lowered.{bodies_of, conditions_of, flow_of}
 use Rattle.pc_lower.specs.Counts.{BodiesWithin, ConditionsWithin, bodies_words, conditions_words, count_at, passages_from}

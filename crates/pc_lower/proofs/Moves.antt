@@ -5,9 +5,9 @@ use Rattle.std.proofs.lemmas.List.{get_or-set_other}
 use Rattle.pt_base.specs.Operators.{is_true, unary_of, binary_of}
 use Rattle.pc_meaning.specs.Tree.{Expression, Operands, number, cell, element, unary, chain, alone, operand, Goal, nowhere, to_cell, to_element}
 use Rattle.pc_meaning.specs.Values.{Store, word_at, element_at, with_element, value, operated, holds, value_or_zero, put, set_all, values, set_locals}
-use Rattle.pc_ir.specs.declared.nodes.Place.TheVariants.{Temp as temp}
-use Rattle.pc_ir.specs.declared.nodes.Step.TheVariants.{Save as save, PutElement as put_element}
-use Rattle.pc_ir.specs.Flow.{State, tested, decides, step, run}
+use Rattle.pc_lower.specs.declared.nodes.Place.TheVariants.{Temp as temp}
+use Rattle.pc_lower.specs.declared.nodes.Step.TheVariants.{Save as save, PutElement as put_element}
+use Rattle.pc_lower.specs.Flow.{State, tested, decides, step, run}
 use Rattle.pc_lower.specs.Lowered.{steps_of, test_of, taken, passed, steps_or_zero, locals_steps}
 use Rattle.pc_lower.specs.Sound.{Apart, ApartAll, EachApart, ArgumentsApart, Gives}
 use Rattle.pc_lower.specs.Laws.{Leaves}

@@ -3,19 +3,19 @@
 use Rattle.std.proofs.Common.{◌≡◌, ℕ, suc, ◌+◌, ◌<◌, ◌≤◌, ◌^◌, Bool, true, false, List, [], ◌∷◌, ◌++◌, map, length, Option, refl, sym, subst, arith}
 use Rattle.pt_base.specs.declared.operators.BinOp.{BinOp}
 use Rattle.pt_base.specs.declared.limits.TheConstants.{MOST_EXPRESSION_LEVELS}
-use Rattle.pc_lex.specs.declared.tokens.Token.{Token}
-use Rattle.pc_ast.specs.declared.expressions.Word.{Word}
-use Rattle.pc_ast.specs.declared.expressions.Expr.{Expr}
-use Rattle.pc_ast.specs.declared.expressions.Goal.{Goal}
-use Rattle.pc_ast.specs.declared.expressions.Goal.TheVariants.{Nothing}
-use Rattle.pc_ast.specs.declared.statements.Stmt.{Stmt}
+use Rattle.pc_grammar.specs.declared.tokens.Token.{Token}
+use Rattle.pc_grammar.specs.declared.expressions.Word.{Word}
+use Rattle.pc_grammar.specs.declared.expressions.Expr.{Expr}
+use Rattle.pc_grammar.specs.declared.expressions.Goal.{Goal}
+use Rattle.pc_grammar.specs.declared.expressions.Goal.TheVariants.{Nothing}
+use Rattle.pc_grammar.specs.declared.statements.Stmt.{Stmt}
 use Rattle.pc_grammar.specs.declared.marks.Pair.{Pair}
 use Rattle.pc_grammar.specs.Expressions.{word_at, grown, SpellsOperand, number as spells_number, name as spells_name, element as spells_element, unary as spells_unary, inside, SpellsBetween, between, SpellsLevel, operand as spells_operand, chain as spells_chain, SpellsRest, none as no_rest, more as more_rest, IsExpression}
 use Rattle.pc_grammar.specs.Lists.{SpellsMore, none as no_more, more as more_of, SpellsList, list, SpellsListed, listed, SpellsArguments, no_arguments, some_arguments, SpellsName}
 use Rattle.pc_grammar.specs.Settings.{SpellsSetting, value, call, SpellsLoop, free, counted, SpellsTest, test as spells_test}
 use Rattle.pc_grammar.specs.Simple.{SpellsNamed, variable, element as spells_target, routine as spells_routine, SpellsSimple, skip as spells_skip, named as spells_named, eot as spells_eot, par as spells_par}
 use Rattle.pc_grammar.specs.Statements.{SpellsStmt, simple, block as spells_block, if_open, if_else, while, abort as spells_abort, weak_abort, SpellsAborted, aborted, SpellsParts, none as no_parts, more as more_parts, IsBody}
-use Rattle.pc_typed.specs.Typing.{numbered, numbered_goal}
+use Rattle.pc_grammar.specs.Typing.{numbered, numbered_goal}
 use Rattle.pc_meaning.specs.declared.places.Room.{Room}
 use Rattle.pc_meaning.specs.Tree.{Expression, Statement, Statements, skip, assign, call_of, eot, par, block, if_so, repeat, loop, abort, none, each}
 use Rattle.pc_meaning.specs.Programs.{operands_of, expression_of, target_of, loop_from, Numbering}

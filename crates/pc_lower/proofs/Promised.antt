@@ -6,25 +6,25 @@ use Rattle.std.proofs.lemmas.List.{length-map}
 use Rattle.pt_base.proofs.Elements.{in_left, in_right}
 use Rattle.pt_base.specs.declared.rules.Rule.{Rule}
 use Rattle.pt_base.specs.declared.rules.Span.{Span}
-use Rattle.pc_ast.specs.declared.expressions.Word.{Word}
-use Rattle.pc_ast.specs.declared.expressions.Expr.{Expr}
-use Rattle.pc_ast.specs.declared.statements.Stmt.{Stmt}
-use Rattle.pc_ast.specs.declared.programs.Item.{Item}
-use Rattle.pc_ast.specs.declared.programs.Item.TheVariants.{Scalar, Array, Function as FunctionItem}
+use Rattle.pc_grammar.specs.declared.expressions.Word.{Word}
+use Rattle.pc_grammar.specs.declared.expressions.Expr.{Expr}
+use Rattle.pc_grammar.specs.declared.statements.Stmt.{Stmt}
+use Rattle.pc_grammar.specs.declared.programs.Item.{Item}
+use Rattle.pc_grammar.specs.declared.programs.Item.TheVariants.{Scalar, Array, Function as FunctionItem}
 use Rattle.pc_grammar.specs.Spans as spans
 use Rattle.pc_grammar.specs.Spans.{Rises}
 use Rattle.pc_grammar.proofs.ItemSpans.{rise}
-use Rattle.pc_typed.specs.declared.typed.Cell.{Cell}
-use Rattle.pc_typed.specs.declared.typed.Function.{Function}
-use Rattle.pc_typed.specs.Uses.{Use, joined, value_uses, statements_uses, holds_pause}
-use Rattle.pc_typed.specs.Places.{names_of}
-use Rattle.pc_typed.specs.Breaking.{Breaks}
-use Rattle.pc_typed.specs.Typing.{Typing, item_cells, cells_of, functions_in, cell_number, function_number, numbered_value, typed_item, typed_from, typing_of}
-use Rattle.pc_typed.specs.Keeping.{IsTyped}
-use Rattle.pc_typed.specs.Meant.{is_item_kind, own_cells, IsNear, item, own, NamesCell, IsMeant, MeansWell}
-use Rattle.pc_typed.proofs.Cuts.{contains_get, get_seam}
-use Rattle.pc_typed.proofs.Standing.{declared}
-use Rattle.pc_typed.proofs.Scalars.{means_well}
+use Rattle.pc_grammar.specs.declared.typed.Cell.{Cell}
+use Rattle.pc_grammar.specs.declared.typed.Function.{Function}
+use Rattle.pc_grammar.specs.Uses.{Use, joined, value_uses, statements_uses, holds_pause}
+use Rattle.pc_grammar.specs.Places.{names_of}
+use Rattle.pc_grammar.specs.Breaking.{Breaks}
+use Rattle.pc_grammar.specs.Typing.{Typing, item_cells, cells_of, functions_in, cell_number, function_number, numbered_value, typed_item, typed_from, typing_of}
+use Rattle.pc_grammar.specs.Keeping.{IsTyped}
+use Rattle.pc_grammar.specs.Meant.{is_item_kind, own_cells, IsNear, item, own, NamesCell, IsMeant, MeansWell}
+use Rattle.pc_grammar.proofs.FirstPassing.{contains_get, get_seam}
+use Rattle.pc_grammar.proofs.Standing.{declared}
+use Rattle.pc_grammar.proofs.Scalars.{means_well}
 use Rattle.pc_meaning.specs.declared.places.Room.{Room}
 use Rattle.pc_meaning.specs.Programs.{rooms_of, room_at, place_of, spans_of, aborts_step, Numbering, numbering_of, statements_of, optional, routine_of, program_of}
 use Rattle.pc_meaning.specs.Promises.{some_pauses}

@@ -6,15 +6,15 @@ use lib.Pointwise.{pointwise}
 use Rattle.std.proofs.lemmas.Bool.Decides.{Decides-ltb}
 use Rattle.pt_base.specs.Bytes.{is_digit}
 use Rattle.pt_base.specs.declared.rules.Rule.TheVariants.{L2}
-use Rattle.pc_lex.specs.declared.tokens.Sort.{Sort}
-use Rattle.pc_lex.specs.declared.tokens.Sort.TheVariants.{Name, Number as NumberSort}
-use Rattle.pc_lex.specs.declared.tokens.Token.{Token}
-use Rattle.pc_lex.specs.declared.fronts.Front.{Front}
-use Rattle.pc_lex.specs.declared.fronts.Front.TheVariants.{Piece, Fault}
-use Rattle.pc_lex.specs.Spelling.{spelling_of, keywords, signs}
-use Rattle.pc_lex.specs.Numbers.{is_word, number_of}
-use Rattle.pc_lex.specs.Lexing.{is_white, run_of, begins, closed_in, number_front, keyword_or_name, word_sort, run_front, sign_front, sign_of, comment_front, front_of, CutEnd, Lexes, done, blank, piece, fault}
-use Rattle.pc_lex.proofs.Found.{found_among}
+use Rattle.pc_grammar.specs.declared.tokens.Sort.{Sort}
+use Rattle.pc_grammar.specs.declared.tokens.Sort.TheVariants.{Name, Number as NumberSort}
+use Rattle.pc_grammar.specs.declared.tokens.Token.{Token}
+use Rattle.pc_grammar.specs.declared.fronts.Front.{Front}
+use Rattle.pc_grammar.specs.declared.fronts.Front.TheVariants.{Piece, Fault}
+use Rattle.pc_grammar.specs.Spelling.{spelling_of, keywords, signs}
+use Rattle.pc_grammar.specs.Numbers.{is_word, number_of}
+use Rattle.pc_grammar.specs.Lexing.{is_white, run_of, begins, closed_in, number_front, keyword_or_name, word_sort, run_front, sign_front, sign_of, comment_front, front_of, CutEnd, Lexes, done, blank, piece, fault}
+use Rattle.pc_grammar.proofs.Found.{found_among}
 
 -- ---- tokens that are numbers
 

@@ -8,9 +8,9 @@ use Rattle.pc_meaning.specs.Tree.{Expression, number, cell, element, unary, chai
 use Rattle.pc_meaning.specs.Values.{value, values, put, holds, set_all}
 use Rattle.pc_meaning.specs.Outcomes.{Done, store_of, followed}
 use Rattle.pc_meaning.specs.Statements.{routine_at, Known, known_at, returned, starting, start, start_all}
-use Rattle.pc_ir.specs.declared.nodes.Place.TheVariants.{Temp as temp}
-use Rattle.pc_ir.specs.declared.nodes.Test.{Test}
-use Rattle.pc_ir.specs.Flow.{State, tested, decides, run, turns, no_nodes, and, Through, state_of, then_do, Flows, flow_at, begins, go, go_all}
+use Rattle.pc_lower.specs.declared.nodes.Place.TheVariants.{Temp as temp}
+use Rattle.pc_lower.specs.declared.nodes.Test.{Test}
+use Rattle.pc_lower.specs.Flow.{State, tested, decides, run, turns, no_nodes, and, Through, state_of, then_do, Flows, flow_at, begins, go, go_all}
 use Rattle.pc_lower.specs.Lowered.{test_of, loop_test, bounded_of, passed, node_of, nodes_of}
 use Rattle.pc_meaning.specs.Promises.{LiteralFits, AllBelow}
 use Rattle.pc_lower.specs.Sound.{Fits, AllFit, CallFits}

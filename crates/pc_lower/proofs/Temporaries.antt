@@ -2,9 +2,9 @@
 use Rattle.std.proofs.Common.{ℕ, zero, suc, ◌+◌, ◌*◌, ◌<◌, ◌≤◌, max, List, [], ◌∷◌, ◌++◌, Option, Some, None, arith}
 use Rattle.std.proofs.Math.Nat.{le-max_left, le-max_right}
 use Rattle.pc_meaning.specs.Tree.{Expression, Operands, number, cell, element, unary, chain, alone, operand, Goal, nowhere, to_cell, to_element, Statement, Statements, skip, assign, call_of, block, if_so, repeat, loop, eot, par, abort, none, each, Routine}
-use Rattle.pc_ir.specs.declared.nodes.Step.{Step}
-use Rattle.pc_ir.specs.declared.nodes.Test.{Test}
-use Rattle.pc_ir.specs.Flow.{Node}
+use Rattle.pc_lower.specs.declared.nodes.Step.{Step}
+use Rattle.pc_lower.specs.declared.nodes.Test.{Test}
+use Rattle.pc_lower.specs.Flow.{Node}
 use Rattle.pc_lower.specs.Lowered.{steps_of, operands_of, test_of, loop_test, taken, passed, steps_or_zero, locals_steps, bounded_of, node_of, nodes_of, finished, body_of}
 use Rattle.pc_lower.specs.Counts.{Nested, AllNested, nested_number, nested_cell, nested_element, nested_unary, nested_chain, nested_in, nested_operand, GoalNested, EachNested, SomeNested, StatementNested, StatementsNested, LocalsNested, RoutineNested, StepsWithin, TestWithin, SomeWithin, NodeWithin, NodesWithin, need, needs}
 use Rattle.pc_lower.specs.Lowered.{body_of}

@@ -6,18 +6,18 @@ use Rattle.std.proofs.lemmas.Slice.Eq.{bytes_eq-Decides}
 use Rattle.pt_base.specs.declared.rules.Rule.{Rule}
 use Rattle.pt_base.specs.declared.rules.Span.{Span}
 use Rattle.pt_base.proofs.Elements.{in_head, in_tail, in_none, in_right}
-use Rattle.pc_ast.specs.declared.expressions.Word.{Word}
-use Rattle.pc_ast.specs.declared.expressions.Expr.{Expr}
-use Rattle.pc_ast.specs.declared.statements.Stmt.{Stmt}
-use Rattle.pc_ast.specs.declared.programs.Item.{Item}
-use Rattle.pc_ast.specs.declared.programs.Item.TheVariants.{Scalar, Array, Function as FunctionItem}
-use Rattle.pc_typed.specs.declared.roles.Role.{Role}
-use Rattle.pc_typed.specs.declared.roles.Role.TheVariants.{Reads, ReadsElement, Writes, WritesElement, Calls, Starts}
-use Rattle.pc_typed.specs.Places.{Place, places, item_places, Found, Own, Known, found, found_among, word_of, same_text, is_among, has_name, is_start, starts, is_main, is_thread}
-use Rattle.pc_typed.specs.Breaking.{Breaks, item_twice, unknown, wrong_kind, no_main, is_wrong, is_main_item}
-use Rattle.pc_typed.specs.Typing.{functions_in, function_number}
-use Rattle.pc_typed.proofs.Cuts.{left_true, right_true, is_false, any_contains, cut_found, cut_any}
-use Rattle.pc_typed.proofs.Standing.{place_stands, placed_in}
+use Rattle.pc_grammar.specs.declared.expressions.Word.{Word}
+use Rattle.pc_grammar.specs.declared.expressions.Expr.{Expr}
+use Rattle.pc_grammar.specs.declared.statements.Stmt.{Stmt}
+use Rattle.pc_grammar.specs.declared.programs.Item.{Item}
+use Rattle.pc_grammar.specs.declared.programs.Item.TheVariants.{Scalar, Array, Function as FunctionItem}
+use Rattle.pc_grammar.specs.declared.roles.Role.{Role}
+use Rattle.pc_grammar.specs.declared.roles.Role.TheVariants.{Reads, ReadsElement, Writes, WritesElement, Calls, Starts}
+use Rattle.pc_grammar.specs.Places.{Place, places, item_places, Found, Own, Known, found, found_among, word_of, same_text, is_among, has_name, is_start, starts, is_main, is_thread}
+use Rattle.pc_grammar.specs.Breaking.{Breaks, item_twice, unknown, wrong_kind, no_main, is_wrong, is_main_item}
+use Rattle.pc_grammar.specs.Typing.{functions_in, function_number}
+use Rattle.pc_grammar.proofs.FirstPassing.{left_true, right_true, is_false, any_contains, cut_found, cut_any}
+use Rattle.pc_grammar.proofs.Standing.{place_stands, placed_in}
 
 pub same_bytes : (a b : Word) → same_text a b ≡ true → a.text ≡ b.text
 same_bytes a b e = (bytes_eq-Decides a.text b.text).0 e

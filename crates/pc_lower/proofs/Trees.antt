@@ -1,18 +1,18 @@
 -- The equations of trees and of nodes, for the search.
 use Rattle.std.proofs.Common.{◌≡◌, ◌≤◌, ℕ, Bool, List, [], ◌∷◌, ◌++◌, map, length, drop, refl, sym, ap, ◌∙◌, append_assoc, append-nil}
 use Rattle.std.proofs.lemmas.List.{map-append}
-use Rattle.pc_ast.specs.declared.expressions.Expr.{Expr}
+use Rattle.pc_grammar.specs.declared.expressions.Expr.{Expr}
 use Rattle.pc_meaning.specs.declared.places.Room.{Room}
 use Rattle.pc_meaning.specs.Tree.{Expression}
 use Rattle.pc_meaning.specs.Programs.{expression_of}
 use Rattle.pc_meaning.proofs.Leaving.{drop-past}
 use Rattle.pc_meaning.proofs.Trees.{expression-Number, expression-Var, expression-Elem, expression-Unary, expression-Chain, statement-Skip, statement-Assign, statement-Call, statement-Block, statement-If, statement-If_else, statement-While, statement-Eot, statement-Par, statement-Abort}
-use Rattle.pc_ir.specs.declared.nodes.Node.{Node as Kept}
-use Rattle.pc_ir.specs.declared.nodes.Abort.{Abort}
-use Rattle.pc_ir.specs.declared.nodes.Test.{Test}
-use Rattle.pc_ir.specs.Flow.{Nodes, no_nodes, and}
-use Rattle.pc_ir.specs.Trees.{read, all_read, pairs_of}
-use Rattle.pc_ir.proofs.Trees.{read-Straight, read-Sequence, read-Branch, read-Turns, read-Bounded, read-Call, read-Pause, read-Fork, read-Guard}
+use Rattle.pc_lower.specs.declared.nodes.Node.{Node as Kept}
+use Rattle.pc_lower.specs.declared.nodes.Abort.{Abort}
+use Rattle.pc_lower.specs.declared.nodes.Test.{Test}
+use Rattle.pc_lower.specs.Flow.{Nodes, no_nodes, and}
+use Rattle.pc_lower.specs.Trees.{read, all_read, pairs_of}
+use Rattle.pc_lower.proofs.FlowTrees.{read-Straight, read-Sequence, read-Branch, read-Turns, read-Bounded, read-Call, read-Pause, read-Fork, read-Guard}
 use Rattle.pc_lower.specs.Lowered.{test_of, passed, conditions_of}
 
 -- one more behind what was pushed

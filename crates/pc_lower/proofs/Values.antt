@@ -4,10 +4,10 @@ use Rattle.std.specs.Prelude.{ℤ, if◌then◌else◌}
 use Rattle.pt_base.specs.Operators.{unary_of, binary_of}
 use Rattle.pc_meaning.specs.Tree.{Expression, Operands, number, cell, element, unary, chain, alone, operand}
 use Rattle.pc_meaning.specs.Values.{element_at, value, operated}
-use Rattle.pc_ir.specs.declared.nodes.Place.TheVariants.{Temp as temp}
-use Rattle.pc_ir.specs.declared.nodes.Step.{Step}
-use Rattle.pc_ir.specs.declared.nodes.Step.TheVariants.{Binary as binary_step, TakeElement as take_element, Unary as unary_step}
-use Rattle.pc_ir.specs.Flow.{State, put_temp, step, run}
+use Rattle.pc_lower.specs.declared.nodes.Place.TheVariants.{Temp as temp}
+use Rattle.pc_lower.specs.declared.nodes.Step.{Step}
+use Rattle.pc_lower.specs.declared.nodes.Step.TheVariants.{Binary as binary_step, TakeElement as take_element, Unary as unary_step}
+use Rattle.pc_lower.specs.Flow.{State, put_temp, step, run}
 use Rattle.pc_lower.specs.Lowered.{steps_of, operands_of}
 use Rattle.pc_lower.specs.Laws.{Leaves}
 

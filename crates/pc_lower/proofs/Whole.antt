@@ -7,8 +7,8 @@ use Rattle.pc_meaning.specs.Values.{Store, value, value_or_zero, holds, set_all,
 use Rattle.pc_meaning.specs.Outcomes.{Residual, Outcome, Done, Paused}
 use Rattle.pc_meaning.specs.Statements.{no_routine, routine_at, Known, known_at, start_all, resume, start_routine, starts_from, starts_of}
 use Rattle.pc_meaning.specs.Runs.{words_at, Standing, Unstarted, At, Ended, Moment, moment_of, went, ticked, outputs_at, moments_from, meaning_of}
-use Rattle.pc_ir.specs.declared.nodes.Place.TheVariants.{Temp as temp}
-use Rattle.pc_ir.specs.Flow.{Temps, State, put_store, run, decides, straight, no_nodes, and, End, Through, Halted, state_of, then_do, Flows, flow_at, go, go_all, again, flows_from, flows_of, abort_at, is_weak, fires_of, Position, Fresh, Waits, Stopped, Point, point_of, goes, moved, shown_from, run_of}
+use Rattle.pc_lower.specs.declared.nodes.Place.TheVariants.{Temp as temp}
+use Rattle.pc_lower.specs.Flow.{Temps, State, put_store, run, decides, straight, no_nodes, and, End, Through, Halted, state_of, then_do, Flows, flow_at, go, go_all, again, flows_from, flows_of, abort_at, is_weak, fires_of, Position, Fresh, Waits, Stopped, Point, point_of, goes, moved, shown_from, run_of}
 use Rattle.pc_lower.specs.Lowered.{test_of, steps_of, locals_steps, nodes_of, rest_of, finished, body_of, bodies_of, conditions_of, flow_of}
 use Rattle.pc_lower.specs.Sound.{Tidy, RestFits, RoutineFits, RoutinesFit, ProgramFits}
 use Rattle.pc_meaning.specs.Promises.{IsDone}

@@ -8,11 +8,11 @@ use Rattle.pt_base.specs.declared.operators.BinOp.TheVariants.{Or, And, BitOr, B
 use Rattle.pc_meaning.specs.Tree.{Expression, Operands, number, cell, element, unary, chain, alone, operand, Goal, nowhere, to_cell, to_element, Statement, Statements, skip, assign, call_of, block, if_so, repeat, loop, eot, par, abort, none, each, Routine}
 use Rattle.pc_lower.specs.Aborts.{aborts_in, aborts_in_all, aborts_of}
 use Rattle.pc_meaning.specs.Statements.{routine_at}
-use Rattle.pc_ir.specs.declared.nodes.Place.TheVariants.{Temp as temp}
-use Rattle.pc_ir.specs.declared.nodes.Step.{Step}
-use Rattle.pc_ir.specs.declared.nodes.Step.TheVariants.{TakeElement as take_element, PutElement as put_element, Unary as unary_step, Binary as binary_step, Save as save}
-use Rattle.pc_ir.specs.declared.nodes.Test.{Test}
-use Rattle.pc_ir.specs.Flow.{Node, Nodes}
+use Rattle.pc_lower.specs.declared.nodes.Place.TheVariants.{Temp as temp}
+use Rattle.pc_lower.specs.declared.nodes.Step.{Step}
+use Rattle.pc_lower.specs.declared.nodes.Step.TheVariants.{TakeElement as take_element, PutElement as put_element, Unary as unary_step, Binary as binary_step, Save as save}
+use Rattle.pc_lower.specs.declared.nodes.Test.{Test}
+use Rattle.pc_lower.specs.Flow.{Node, Nodes}
 use Rattle.pc_lower.specs.Lowered.{steps_of, operands_of, loop_test, taken, passed, steps_or_zero, locals_steps, bounded_of, node_of, nodes_of, finished, body_of, bodies_of, conditions_of}
 use Rattle.pc_lower.specs.Counts.{unary_words, binary_words, steps_words, some_words, drop_words, node_words, nodes_words, conditions_words, bodies_words, count_at, node_passage, nodes_passage, passages_from, value_weight, operands_weight, goal_weight, arguments_weight, weight, weights, or_four, locals_weight, result_weight, routine_weight, routines_weight, single, singles, routine_single, singles_from}
 use Rattle.pc_meaning.proofs.Lookups.{both_grow_all}

@@ -5,8 +5,8 @@ use Rattle.pc_lower.specs.Aborts.{aborts_of}
 use Rattle.pc_meaning.specs.Values.{Store}
 use Rattle.pc_meaning.specs.Outcomes.{Outcome, Done, Paused, Residual}
 use Rattle.pc_meaning.specs.Statements.{known_at, starts_of, resume}
-use Rattle.pc_ir.specs.declared.nodes.Place.TheVariants.{Temp as temp}
-use Rattle.pc_ir.specs.Flow.{State, End, Through, Halted, flow_at, flows_of, again, is_weak, fires_of}
+use Rattle.pc_lower.specs.declared.nodes.Place.TheVariants.{Temp as temp}
+use Rattle.pc_lower.specs.Flow.{State, End, Through, Halted, flow_at, flows_of, again, is_weak, fires_of}
 use Rattle.pc_lower.specs.Lowered.{rest_of, flow_of}
 use Rattle.pc_lower.specs.Sound.{RestFits}
 

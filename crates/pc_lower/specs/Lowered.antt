@@ -5,11 +5,11 @@ use Rattle.pc_meaning.specs.Tree.{Expression, Operands, number, cell, element, u
 use Rattle.pc_lower.specs.Aborts.{aborts_of}
 use Rattle.pc_meaning.specs.Outcomes.{Residual, Threads, here, seq, in_abort, in_par, no_more, ended, paused}
 use Rattle.pc_meaning.specs.Statements.{routine_at}
-use Rattle.pc_ir.specs.declared.nodes.Place.TheVariants.{Temp as temp}
-use Rattle.pc_ir.specs.declared.nodes.Step.{Step}
-use Rattle.pc_ir.specs.declared.nodes.Step.TheVariants.{Const as const, Load as load, Save as save, Unary as unary_step, Binary as binary_step, TakeElement as take_element, PutElement as put_element}
-use Rattle.pc_ir.specs.declared.nodes.Test.{Test}
-use Rattle.pc_ir.specs.Flow.{Node, Nodes, straight, sequence, branch, turns, bounded, call, pause, fork, guard, no_nodes, and, Rest, Rests, at, ahead, within, group, nobody, over, going, Flow}
+use Rattle.pc_lower.specs.declared.nodes.Place.TheVariants.{Temp as temp}
+use Rattle.pc_lower.specs.declared.nodes.Step.{Step}
+use Rattle.pc_lower.specs.declared.nodes.Step.TheVariants.{Const as const, Load as load, Save as save, Unary as unary_step, Binary as binary_step, TakeElement as take_element, PutElement as put_element}
+use Rattle.pc_lower.specs.declared.nodes.Test.{Test}
+use Rattle.pc_lower.specs.Flow.{Node, Nodes, straight, sequence, branch, turns, bounded, call, pause, fork, guard, no_nodes, and, Rest, Rests, at, ahead, within, group, nobody, over, going, Flow}
 
 -- ---- values: the word comes into temporary k, by temporaries from k on
 

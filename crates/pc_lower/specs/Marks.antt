@@ -1,8 +1,8 @@
 -- The spans of a statement's `EOT`s, `PAR`s and aborts, which give them their numbers.
 use Rattle.std.specs.Prelude.{◌≡◌, ℕ, List}
 use Rattle.pt_base.specs.declared.rules.Span.{Span}
-use Rattle.pc_ast.specs.declared.statements.Stmt.{Stmt, fold-Stmt}
-use Rattle.pc_typed.specs.declared.typed.Function.{Function}
+use Rattle.pc_grammar.specs.declared.statements.Stmt.{Stmt, fold-Stmt}
+use Rattle.pc_grammar.specs.declared.typed.Function.{Function}
 use Rattle.pc_meaning.specs.Programs.{eots_step, pars_step, aborts_step, spans_of}
 use Rattle.pc_lower.specs.declared.marks.Marks.{Marks}
 

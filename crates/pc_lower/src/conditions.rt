@@ -2,13 +2,12 @@ ghost use Rattle.std.specs.Prelude.{◌≡◌, ◌++◌, IfOk, OnOk};
 ghost use Rattle.pc_meaning.specs.Lefts.{routines_of, tree, trees};
 ghost use Rattle.pc_lower.specs.Lowered.{conditions_of};
 ghost use Rattle.pc_lower.specs.Aborts.{aborts_in, aborts_in_all, aborts_of};
-ghost use Rattle.pc_ir.specs.Trees.{pairs_of};
+ghost use Rattle.pc_lower.specs.Trees.{pairs_of};
 
+use crate::nodes::Abort;
 use crate::steps::test;
-use pc_ast::Stmt;
-use pc_ir::Abort;
+use pc_grammar::{Function, Stmt};
 use pc_meaning::Room;
-use pc_typed::Function;
 use pt_base::Memory;
 use std::alloc::Global;
 

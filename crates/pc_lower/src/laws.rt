@@ -1,6 +1,6 @@
 ghost use Rattle.std.specs.Prelude.{◌≡◌, ℕ, ◌≤◌, ◌+◌, ℤ, List, []};
-ghost use Rattle.pc_typed.specs.Typing.{Typing};
-ghost use Rattle.pc_typed.specs.Keeping.{IsTyped};
+ghost use Rattle.pc_grammar.specs.Typing.{Typing};
+ghost use Rattle.pc_grammar.specs.Keeping.{IsTyped};
 ghost use Rattle.pc_rules.specs.Judging.{IsWithin};
 ghost use Rattle.pc_meaning.specs.Promises.{RoutinesLast, finishing_of};
 ghost use Rattle.pc_lower.specs.Loops.{RoutinesLoopsKept};
@@ -9,7 +9,7 @@ ghost use Rattle.pc_meaning.specs.Tree.{Expression, Routine, Program};
 ghost use Rattle.pc_meaning.specs.Values.{value};
 ghost use Rattle.pc_meaning.specs.Runs.{meaning_of};
 ghost use Rattle.pc_meaning.specs.Programs.{program_of};
-ghost use Rattle.pc_ir.specs.Flow.{State, Temps, run, run_of};
+ghost use Rattle.pc_lower.specs.Flow.{State, Temps, run, run_of};
 ghost use Rattle.pc_lower.specs.Aborts.{aborts_of};
 ghost use Rattle.pc_lower.specs.Lowered.{steps_of, test_of, body_of, bodies_of, conditions_of, flow_of};
 ghost use Rattle.pc_lower.specs.Sound.{ProgramFits};

@@ -4,18 +4,19 @@ ghost use Rattle.pc_meaning.specs.Runs.{meaning_of};
 ghost use Rattle.pc_meaning.specs.Programs.{program_of};
 ghost use Rattle.pc_rules.specs.Known.{known_of};
 ghost use Rattle.pc_rules.specs.Weights.{passages, program_weight};
-ghost use Rattle.pc_ir.specs.Flow.{Temps, run_of};
-ghost use Rattle.pc_ir.specs.Trees.{read, flow_read};
+ghost use Rattle.pc_lower.specs.Flow.{Temps, run_of};
+ghost use Rattle.pc_lower.specs.Trees.{read, flow_read};
 ghost use Rattle.pc_lower.specs.Lowered.{bodies_of, flow_of};
 ghost use Rattle.pc_lower.specs.Marks.{AreMarks};
 ghost use Rattle.pc_lower.specs.Counts.{BodiesWithin, ConditionsWithin, bodies_words, conditions_words, count_at, passages_from};
 
 use crate::conditions::aborts;
+use crate::flow::Flow;
 use crate::marks::{Marks, marks_of};
-use crate::nodes::body;
-use pc_ir::{Flow, Node};
+use crate::nodes::Node;
+use crate::statements::body;
+use pc_grammar::{Function, Typed};
 use pc_meaning::{Room, declared, ports, rooms};
-use pc_typed::{Function, Typed};
 use pt_base::Memory;
 use std::alloc::Global;
 

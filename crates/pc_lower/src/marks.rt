@@ -2,8 +2,7 @@ ghost use Rattle.std.specs.Prelude.{◌≡◌, ◌++◌, [], map, IfOk, OnOk};
 ghost use Rattle.pc_meaning.specs.Programs.{joined, eots_step, pars_step, aborts_step, spans_of, number_of};
 ghost use Rattle.pc_lower.specs.Marks.{eots_in, pars_in, aborts_of_text};
 
-use pc_ast::Stmt;
-use pc_typed::Function;
+use pc_grammar::{Function, Stmt};
 use pt_base::{Memory, Span};
 use std::alloc::Global;
 

@@ -3,8 +3,8 @@ ghost use Rattle.pc_meaning.specs.Programs as programs;
 ghost use Rattle.pc_meaning.specs.Programs.{place_of, expression_of, target_of, optional, locals_of};
 ghost use Rattle.pc_lower.specs.Lowered.{steps_of, operands_of, test_of, loop_test, taken, passed, steps_or_zero, locals_steps};
 
-use pc_ast::{Expr, Goal};
-use pc_ir::{Place, Step, Test};
+use crate::nodes::{Place, Step, Test};
+use pc_grammar::{Expr, Goal};
 use pc_meaning::{Room, room};
 use pt_base::{BinOp, Memory};
 use sqlite_items::Items;

@@ -1,5 +1,4 @@
-use pt_base::{Memory, Text};
-use pt_lines::put_number;
+use pt_base::{Memory, Text, put_number};
 use std::alloc::Global;
 
 // In a template `@` stands for a value, `$` for a statement, `?` for one that may call, `:` for one that may pause, and `'`

@@ -1,9 +1,9 @@
 use crate::drawing::drawn;
 use crate::walking::Walk;
+use pc_grammar::Typed;
 use pc_lower::lower;
 use pc_meaning::meaning_of;
-use pc_typed::Typed;
-use pc_verdict::judged;
+use pc_rules::judged;
 use pt_base::{Many, Memory, Refusal, Text};
 use std::alloc::Global;
 use std::test::Fail;

@@ -1,4 +1,4 @@
-use pc_ir::{Flow, Node, Place, Step, Test};
+use pc_lower::{Flow, Node, Place, Step, Test};
 use pt_base::{Memory, binary, unary};
 use sqlite_items::{Boxed, Items};
 use std::alloc::Global;

@@ -1,16 +1,16 @@
 -- Whether a statement may finish, and whether it holds a pause, are the same of the tree that the meaning takes.
 use Rattle.std.proofs.Common.{◌≡◌, ℕ, Bool, true, false, ◌&&◌, ◌||◌, not, List, [], ◌∷◌, ◌++◌, map, Option, Some, None, refl, sym, ap, subst, ◌∙◌}
-use Rattle.pc_ast.specs.declared.expressions.Expr.{Expr}
-use Rattle.pc_ast.specs.declared.expressions.Expr.TheFolds.{fold-roll-Expr, ind-Expr, map-Expr}
-use Rattle.pc_ast.specs.declared.expressions.Expr.TheViews.{roll-Expr, out-roll-Expr}
-use Rattle.pc_ast.specs.declared.expressions.Expr.TheOpen.{Expr-F, Number, Var, Elem, Unary, Chain}
-use Rattle.pc_ast.specs.declared.statements.Stmt.{Stmt}
-use Rattle.pc_ast.specs.declared.statements.Stmt.TheFolds.{fold-roll-Stmt, ind-Stmt, map-Stmt}
-use Rattle.pc_ast.specs.declared.statements.Stmt.TheViews.{roll-Stmt}
-use Rattle.pc_ast.specs.declared.statements.Stmt.TheOpen.{Stmt-F, Skip, Assign, Call, Block, If, While, Eot, Par, Abort}
-use Rattle.pc_typed.specs.declared.typed.Function.{Function}
-use Rattle.pc_typed.specs.Finishing as typed
-use Rattle.pc_typed.specs.Uses.{any_of, pauses_step, holds_pause}
+use Rattle.pc_grammar.specs.declared.expressions.Expr.{Expr}
+use Rattle.pc_grammar.specs.declared.expressions.Expr.TheFolds.{fold-roll-Expr, ind-Expr, map-Expr}
+use Rattle.pc_grammar.specs.declared.expressions.Expr.TheViews.{roll-Expr, out-roll-Expr}
+use Rattle.pc_grammar.specs.declared.expressions.Expr.TheOpen.{Expr-F, Number, Var, Elem, Unary, Chain}
+use Rattle.pc_grammar.specs.declared.statements.Stmt.{Stmt}
+use Rattle.pc_grammar.specs.declared.statements.Stmt.TheFolds.{fold-roll-Stmt, ind-Stmt, map-Stmt}
+use Rattle.pc_grammar.specs.declared.statements.Stmt.TheViews.{roll-Stmt}
+use Rattle.pc_grammar.specs.declared.statements.Stmt.TheOpen.{Stmt-F, Skip, Assign, Call, Block, If, While, Eot, Par, Abort}
+use Rattle.pc_grammar.specs.declared.typed.Function.{Function}
+use Rattle.pc_grammar.specs.Finishing as typed
+use Rattle.pc_grammar.specs.Uses.{any_of, pauses_step, holds_pause}
 use Rattle.pc_meaning.specs.Tree.{Expression, Statement}
 use Rattle.pc_meaning.specs.Promises.{pauses, some_pauses, is_always_true, finishes, all_finish, finishing_from}
 use Rattle.pc_meaning.specs.declared.places.Room.{Room}

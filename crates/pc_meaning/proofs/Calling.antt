@@ -4,7 +4,7 @@ use Rattle.std.specs.Prelude.{slice_get, unwrap_or}
 use Rattle.std.specs.Option.{option_map}
 use Rattle.std.proofs.lemmas.List.{length-map}
 use Rattle.std.proofs.lemmas.Option.{slice_get-map, slice_get-get_or}
-use Rattle.pc_typed.specs.declared.typed.Function.{Function}
+use Rattle.pc_grammar.specs.declared.typed.Function.{Function}
 use Rattle.pc_meaning.specs.Tree.{block}
 use Rattle.pc_meaning.specs.Values.{Store, set_locals}
 use Rattle.pc_meaning.specs.Outcomes.{Done}

@@ -1,9 +1,9 @@
 -- A measure for calls: how much the functions that may be called can take.
 use Rattle.std.proofs.Common.{◌≡◌, ℕ, zero, suc, ◌+◌, ◌-◌, ◌<◌, ◌≤◌, List, Option, Some, None, refl, ap, arith}
 use Rattle.std.specs.Prelude.{slice_get}
-use Rattle.pc_ast.specs.declared.statements.Stmt.{Stmt, size-Stmt}
+use Rattle.pc_grammar.specs.declared.statements.Stmt.{Stmt, size-Stmt}
 use denote.Param.Weighed.{most}
-use Rattle.pc_typed.specs.declared.typed.Function.{Function}
+use Rattle.pc_grammar.specs.declared.typed.Function.{Function}
 
 abbrev pub size_all : List (Stmt ℕ) → ℕ
 size_all all = most (size-Stmt ℕ) all

@@ -1,7 +1,7 @@
 -- `main` starts and goes on.
 use Rattle.std.proofs.Common.{◌≡◌, ℕ, ◌+◌, ◌<◌, List, [], ◌∷◌, ◌++◌, length, map, drop, get_or, Option, Some, None, refl, sym, ap, ◌∙◌, append_assoc}
 use Rattle.std.specs.Prelude.{ℤ}
-use Rattle.pc_typed.specs.Typing.{Typing}
+use Rattle.pc_grammar.specs.Typing.{Typing}
 use Rattle.pc_meaning.specs.Tree.{Program}
 use Rattle.pc_meaning.specs.Values.{Store}
 use Rattle.pc_meaning.specs.Statements.{known_at, resume}

@@ -2,8 +2,8 @@
 use Rattle.std.proofs.Common.{◌≡◌, ℕ, zero, suc, ◌+◌, ◌-◌, ◌<◌, ◌≤◌, true, List, [], ◌∷◌, ◌++◌, append_assoc, map, length, drop, get_or, add-one, drop-cons, Option, Some, None, refl, sym, ap, ◌∙◌, subst, arith}
 use Rattle.std.specs.Prelude.{if◌then◌else◌, slice_get, replicate, ℤ}
 use Rattle.std.specs.Option.{option_map}
-use Rattle.pc_ast.specs.declared.statements.Stmt.{Stmt}
-use Rattle.pc_typed.specs.declared.typed.Function.{Function}
+use Rattle.pc_grammar.specs.declared.statements.Stmt.{Stmt}
+use Rattle.pc_grammar.specs.declared.typed.Function.{Function}
 use Rattle.pc_meaning.specs.Tree.{Expression, Statement, Statements, skip, block, none, each, Routine}
 use Rattle.pc_meaning.specs.Values.{Store, holds, set_all}
 use Rattle.pc_meaning.specs.Outcomes.{Residual, here, before_rest, Outcome, Done, Paused, store_of, followed}

@@ -1,8 +1,8 @@
 -- What the numbers that are kept of a paused statement say, read along the statement.
 use Rattle.std.specs.Prelude.{◌≡◌, ◌≤◌, ℕ, zero, suc, nat_eq, Bool, true, false, if◌then◌else◌, List, [], ◌∷◌, map, take, length, Option, Some, None}
 use Rattle.std.specs.Option.{option_map}
-use Rattle.pc_ast.specs.declared.statements.Stmt.{Stmt}
-use Rattle.pc_typed.specs.declared.typed.Function.{Function}
+use Rattle.pc_grammar.specs.declared.statements.Stmt.{Stmt}
+use Rattle.pc_grammar.specs.declared.typed.Function.{Function}
 use Rattle.pc_meaning.specs.Tree.{Statement, Statements, skip, assign, call_of, block, if_so, repeat, loop, eot, par, abort, none, each, Routine}
 use Rattle.pc_meaning.specs.Values.{Store}
 use Rattle.pc_meaning.specs.Outcomes.{Residual, Threads, here, in_abort, in_par, no_more, ended, paused, before_rest, Outcome, Done, Paused, Side, beside}

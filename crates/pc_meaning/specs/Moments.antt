@@ -1,6 +1,6 @@
 -- What a `Meaning` keeps between two ticks, and the moment that it is.
 use Rattle.std.specs.Prelude.{◌≡◌, ℕ, ℤ, List, Option, Some, None}
-use Rattle.pc_typed.specs.Typing.{Typing}
+use Rattle.pc_grammar.specs.Typing.{Typing}
 use Rattle.pc_meaning.specs.Tree.{Program}
 use Rattle.pc_meaning.specs.Values.{Store, set_all}
 use Rattle.pc_meaning.specs.Runs as runs

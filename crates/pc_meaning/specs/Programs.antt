@@ -2,17 +2,17 @@
 use Rattle.std.specs.Prelude.{ℕ, ◌+◌, nat_lt, ℤ, Bool, true, false, if◌then◌else◌, List, [], ◌∷◌, ◌++◌, map, replicate, slice_get, unwrap_or, Option, Some, None}
 use Rattle.pt_base.specs.declared.Span.{Span}
 use Rattle.pt_base.specs.declared.operators.BinOp.{BinOp}
-use Rattle.pc_ast.specs.declared.expressions.Expr.{Expr, fold-Expr}
-use Rattle.pc_ast.specs.declared.expressions.Expr.TheOpen.{Expr-F, Number, Var, Elem, Unary, Chain}
-use Rattle.pc_ast.specs.declared.expressions.Goal.{Goal}
-use Rattle.pc_ast.specs.declared.expressions.Goal.TheVariants.{Nothing, Var as GoalVar, Elem as GoalElem}
-use Rattle.pc_ast.specs.declared.statements.Stmt.{Stmt, fold-Stmt}
-use Rattle.pc_ast.specs.declared.statements.Stmt.TheOpen.{Stmt-F, Skip, Assign, Call, Block, If, While, Eot, Par, Abort}
-use Rattle.pc_ast.specs.declared.programs.CellKind.{CellKind}
-use Rattle.pc_ast.specs.declared.programs.CellKind.TheVariants.{Input, Output}
-use Rattle.pc_typed.specs.declared.typed.Cell.{Cell}
-use Rattle.pc_typed.specs.declared.typed.Function.{Function}
-use Rattle.pc_typed.specs.Typing.{Typing}
+use Rattle.pc_grammar.specs.declared.expressions.Expr.{Expr, fold-Expr}
+use Rattle.pc_grammar.specs.declared.expressions.Expr.TheOpen.{Expr-F, Number, Var, Elem, Unary, Chain}
+use Rattle.pc_grammar.specs.declared.expressions.Goal.{Goal}
+use Rattle.pc_grammar.specs.declared.expressions.Goal.TheVariants.{Nothing, Var as GoalVar, Elem as GoalElem}
+use Rattle.pc_grammar.specs.declared.statements.Stmt.{Stmt, fold-Stmt}
+use Rattle.pc_grammar.specs.declared.statements.Stmt.TheOpen.{Stmt-F, Skip, Assign, Call, Block, If, While, Eot, Par, Abort}
+use Rattle.pc_grammar.specs.declared.programs.CellKind.{CellKind}
+use Rattle.pc_grammar.specs.declared.programs.CellKind.TheVariants.{Input, Output}
+use Rattle.pc_grammar.specs.declared.typed.Cell.{Cell}
+use Rattle.pc_grammar.specs.declared.typed.Function.{Function}
+use Rattle.pc_grammar.specs.Typing.{Typing}
 use Rattle.pc_meaning.specs.declared.places.Room.{Room}
 use Rattle.pc_meaning.specs.Tree.{Expression, Operands, number, cell, element, unary, chain, alone, operand, Goal as Target, nowhere, to_cell, to_element, Statement, Statements, skip, assign, call_of, block, if_so, repeat, loop, eot, par, abort, none, each, Routine, Program}
 

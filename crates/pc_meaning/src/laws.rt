@@ -1,8 +1,8 @@
 ghost use Rattle.std.specs.Prelude.{◌≡◌, ◌++◌, ℕ, ◌<◌, false, List, [], length};
-ghost use Rattle.pc_ast.specs.declared.statements.Stmt.{Stmt};
-ghost use Rattle.pc_typed.specs.Typing.{Typing};
-ghost use Rattle.pc_typed.specs.Uses.{holds_pause};
-ghost use Rattle.pc_typed.specs.Finishing.{finishing};
+ghost use Rattle.pc_grammar.specs.declared.statements.Stmt.{Stmt};
+ghost use Rattle.pc_grammar.specs.Typing.{Typing};
+ghost use Rattle.pc_grammar.specs.Uses.{holds_pause};
+ghost use Rattle.pc_grammar.specs.Finishing.{finishing};
 ghost use Rattle.pc_meaning.specs.Tree.{Statement, Routine};
 ghost use Rattle.pc_meaning.specs.Values.{Store};
 ghost use Rattle.pc_meaning.specs.Statements.{Known, routine_at, known_at, start, start_routine, starts_of};

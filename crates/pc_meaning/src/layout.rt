@@ -2,8 +2,7 @@ ghost use Rattle.std.specs.Prelude.{◌≡◌, ◌++◌, replicate, IfOk, OnOk};
 ghost use Rattle.pc_meaning.specs.Programs.{rooms_of, declared_of, wanted, chosen};
 
 use crate::places::Room;
-use pc_ast::CellKind;
-use pc_typed::Cell;
+use pc_grammar::{Cell, CellKind};
 use pt_base::Memory;
 use sqlite_items::at;
 use std::alloc::Global;

@@ -8,7 +8,7 @@ use crate::layout::{declared, places, rooms};
 use crate::places::Room;
 use crate::standing::Standing;
 use crate::ticking::{show, step};
-use pc_typed::Typed;
+use pc_grammar::Typed;
 use pt_base::{Many, Memory};
 use std::alloc::Global;
 use std::marker::Model;
@@ -29,8 +29,8 @@ impl<'a> Model for Meaning<'a> {
     ghost use Rattle.pc_meaning.specs.Moments.{State, IsLaidOut};
     ghost use Rattle.std.specs.Coded.{codes};
     ghost use denote.Builtin.{u32};
-    ghost use Rattle.pc_ast.specs.contracts.expressions.Expr as e;
-    ghost use Rattle.pc_ast.specs.contracts.statements.Stmt as s;
+    ghost use Rattle.pc_grammar.specs.contracts.expressions.Expr as e;
+    ghost use Rattle.pc_grammar.specs.contracts.statements.Stmt as s;
     ghost use Rattle.pc_meaning.specs.contracts.lefts.Left as l;
 
     ghost coded = { Prim.hlevel (codes, (e.the_row u32).coded, (s.the_row u32).coded, l.the_row.coded) };

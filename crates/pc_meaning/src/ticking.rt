@@ -9,7 +9,7 @@ use crate::places::Room;
 use crate::resuming::resume_function;
 use crate::standing::{Standing, standing_after};
 use crate::starting::start_function;
-use pc_typed::Typed;
+use pc_grammar::Typed;
 use pt_base::Memory;
 use std::alloc::Global;
 

@@ -4,7 +4,7 @@ ghost use Rattle.pc_meaning.specs.Programs.{room_at, expression_of, operands_of,
 
 use crate::cells::{Cells, word};
 use crate::places::Room;
-use pc_ast::{Expr, Goal};
+use pc_grammar::{Expr, Goal};
 use pt_base::{BinOp, Memory, binary, unary};
 use std::alloc::Global;
 

@@ -6,8 +6,7 @@ ghost use Rattle.pc_meaning.specs.Programs.{Numbering, place_of, expression_of, 
 use crate::cells::Cells;
 use crate::places::Room;
 use crate::values::{room, value_of, value_or_zero, values_of};
-use pc_ast::{Expr, Goal};
-use pc_typed::Function;
+use pc_grammar::{Expr, Function, Goal};
 use pt_base::Memory;
 use std::alloc::Global;
 

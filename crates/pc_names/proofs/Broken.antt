@@ -6,10 +6,10 @@ use Rattle.std.proofs.lemmas.List.{map-append}
 use Rattle.pt_base.specs.declared.Rule.{Rule}
 use Rattle.pt_base.specs.declared.Rule.TheVariants.{N1, N2, N3, N4, N5, N6, N7, N8}
 use Rattle.pt_base.specs.declared.Span.{Span}
-use Rattle.pc_ast.specs.declared.expressions.Word.{Word}
-use Rattle.pc_ast.specs.declared.programs.Item.{Item}
-use Rattle.pc_typed.specs.Places.{Place, places, Found, Unknown, Own, Known, found, word_of, same_text, is_among, has_name, is_start, is_main, is_thread}
-use Rattle.pc_typed.specs.Breaking.{Breaks, item_twice, own_twice, unknown, wrong_kind, input_written, miscounted, no_main, started_twice, no_thread, is_wrong, is_written, is_input, is_miscounted, is_main_item, is_named_main, main_place, own_of, holds_some_pause, starts_text}
+use Rattle.pc_grammar.specs.declared.expressions.Word.{Word}
+use Rattle.pc_grammar.specs.declared.programs.Item.{Item}
+use Rattle.pc_grammar.specs.Places.{Place, places, Found, Unknown, Own, Known, found, word_of, same_text, is_among, has_name, is_start, is_main, is_thread}
+use Rattle.pc_grammar.specs.Breaking.{Breaks, item_twice, own_twice, unknown, wrong_kind, input_written, miscounted, no_main, started_twice, no_thread, is_wrong, is_written, is_input, is_miscounted, is_main_item, is_named_main, main_place, own_of, holds_some_pause, starts_text}
 use Rattle.pt_base.specs.First.{Fault, fault_if}
 use Rattle.pt_base.proofs.Elements.{in_left, in_right, in_either, in_flat, flat_in}
 use Rattle.pt_base.proofs.Least.{fault_in, in_fault}

@@ -6,19 +6,19 @@ use Rattle.pt_base.proofs.Elements.{in_head, in_right}
 use Rattle.pt_base.specs.declared.Rule.{Rule}
 use Rattle.pt_base.specs.declared.Rule.TheVariants.{N1}
 use Rattle.pt_base.specs.declared.rules.Span.{Span}
-use Rattle.pc_ast.specs.declared.expressions.Word.{Word}
-use Rattle.pc_ast.specs.declared.expressions.Expr.{Expr}
-use Rattle.pc_ast.specs.declared.programs.Item.{Item}
-use Rattle.pc_ast.specs.declared.programs.CellKind.TheVariants.{Parameter, Local}
-use Rattle.pc_ast.specs.declared.programs.Item.TheVariants.{Scalar, Array, Function}
+use Rattle.pc_grammar.specs.declared.expressions.Word.{Word}
+use Rattle.pc_grammar.specs.declared.expressions.Expr.{Expr}
+use Rattle.pc_grammar.specs.declared.programs.Item.{Item}
+use Rattle.pc_grammar.specs.declared.programs.CellKind.TheVariants.{Parameter, Local}
+use Rattle.pc_grammar.specs.declared.programs.Item.TheVariants.{Scalar, Array, Function}
 use Rattle.pc_grammar.specs.Trees.{Program, IsTree}
 use Rattle.pc_grammar.specs.Spans.{each, optional, name_spans, local_spans, expression_spans, statement_spans, frame_spans, item_spans, spans_of, Rises}
 use Rattle.pc_grammar.proofs.ItemSpans.{rise}
-use Rattle.pc_typed.specs.Places.{word_of, is_among, names_of, same_text}
-use Rattle.pc_typed.specs.Breaking.{Breaks, item_twice, own_twice, own_of}
-use Rattle.pc_typed.specs.Typing.{cell_of, item_cells, cells_of, functions_in}
-use Rattle.pc_typed.proofs.Lists.{next_at}
-use Rattle.pc_typed.proofs.Standing.{cells_append, functions_append}
+use Rattle.pc_grammar.specs.Places.{word_of, is_among, names_of, same_text}
+use Rattle.pc_grammar.specs.Breaking.{Breaks, item_twice, own_twice, own_of}
+use Rattle.pc_grammar.specs.Typing.{cell_of, item_cells, cells_of, functions_in}
+use Rattle.pc_grammar.proofs.Lists.{next_at}
+use Rattle.pc_grammar.proofs.Standing.{cells_append, functions_append}
 use Rattle.pc_names.specs.Known.{functions_of}
 use Rattle.pc_names.specs.Names.{AreOnce, CanBeNumbered}
 use Rattle.pc_names.proofs.Repeats.{list_any-map, map_split}

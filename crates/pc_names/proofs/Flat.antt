@@ -2,9 +2,9 @@
 use Rattle.std.proofs.Common.{◌≡◌, ◌&&◌, List, [], ◌∷◌, ◌++◌, map, refl, ap}
 use Rattle.std.specs.Prelude.{not, flat_map}
 use Rattle.pt_base.specs.declared.Rule.TheVariants.{N1, N8}
-use Rattle.pc_ast.specs.declared.programs.Item.{Item}
-use Rattle.pc_typed.specs.Places.{Place, word_of, is_thread}
-use Rattle.pc_typed.specs.Breaking.{own_of, holds_some_pause}
+use Rattle.pc_grammar.specs.declared.programs.Item.{Item}
+use Rattle.pc_grammar.specs.Places.{Place, word_of, is_thread}
+use Rattle.pc_grammar.specs.Breaking.{own_of, holds_some_pause}
 use Rattle.pt_base.specs.First.{Fault, fault_if}
 use Rattle.pc_names.specs.Sites.{site_of}
 use Rattle.pc_names.specs.Faults.{repeats, own_faults, site_faults, sites_faults, pause_faults}

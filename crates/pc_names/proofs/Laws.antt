@@ -2,9 +2,9 @@
 use Rattle.std.proofs.Common.{◌≡◌, ℕ, List, None, Some}
 use Rattle.pt_base.specs.declared.Rule.{Rule}
 use Rattle.pt_base.specs.declared.Span.{Span}
-use Rattle.pc_ast.specs.declared.programs.Item.{Item}
+use Rattle.pc_grammar.specs.declared.programs.Item.{Item}
 use Rattle.pt_base.specs.First.{IsFirst}
-use Rattle.pc_typed.specs.Breaking.{Breaks}
+use Rattle.pc_grammar.specs.Breaking.{Breaks}
 use Rattle.pt_base.specs.First.{first_of}
 use Rattle.pt_base.proofs.Least.{first_of_broken, none_broken}
 use Rattle.pc_names.specs.Faults.{faults}

@@ -1,13 +1,13 @@
 -- A function with numbers for names, put together, and its locals one after another.
 use Rattle.std.proofs.Common.{◌≡◌, ℕ, ◌+◌, Bool, List, [], ◌∷◌, ◌++◌, Option, length, sym, ap, ◌∙◌, append_assoc, length-append, arith}
-use Rattle.pc_ast.specs.declared.expressions.Word.{Word}
-use Rattle.pc_ast.specs.declared.expressions.Expr.{Expr}
-use Rattle.pc_ast.specs.declared.statements.Stmt.{Stmt}
-use Rattle.pc_ast.specs.declared.programs.Item.{Item}
-use Rattle.pc_ast.specs.declared.programs.Item.TheVariants.{Function as FunctionItem}
-use Rattle.pc_typed.specs.declared.typed.Function.{Function}
-use Rattle.pc_typed.specs.Places.{names_of, is_thread}
-use Rattle.pc_typed.specs.Typing.{cells_of, cell_number, function_number, numbered_value, numbers_from, typed_locals, typed_item}
+use Rattle.pc_grammar.specs.declared.expressions.Word.{Word}
+use Rattle.pc_grammar.specs.declared.expressions.Expr.{Expr}
+use Rattle.pc_grammar.specs.declared.statements.Stmt.{Stmt}
+use Rattle.pc_grammar.specs.declared.programs.Item.{Item}
+use Rattle.pc_grammar.specs.declared.programs.Item.TheVariants.{Function as FunctionItem}
+use Rattle.pc_grammar.specs.declared.typed.Function.{Function}
+use Rattle.pc_grammar.specs.Places.{names_of, is_thread}
+use Rattle.pc_grammar.specs.Typing.{cells_of, cell_number, function_number, numbered_value, numbers_from, typed_locals, typed_item}
 use Rattle.pc_names.specs.Chains.{numbered_statements}
 
 abbrev pub made : Word → Bool → Bool → List ℕ → List (ℕ × Option (Expr ℕ)) → List (Stmt ℕ) → Option (Expr ℕ) → Function

@@ -1,14 +1,14 @@
 -- Trees with numbers for names, constructor by constructor.
 use Rattle.std.proofs.Common.{◌≡◌, ℕ, List, Some, sym, ap, ◌∙◌}
 use Rattle.pt_base.specs.declared.operators.BinOp.{BinOp}
-use Rattle.pc_ast.specs.declared.expressions.Word.{Word}
-use Rattle.pc_ast.specs.declared.expressions.Expr.{Expr, fold-roll-Expr}
-use Rattle.pc_ast.specs.declared.expressions.Expr.TheVariants.{Chain, rolls-Chain}
-use Rattle.pc_ast.specs.declared.expressions.Expr.TheOpen.{Chain as OpenChain}
-use Rattle.pc_ast.specs.declared.statements.Stmt.{Stmt, fold-roll-Stmt}
-use Rattle.pc_ast.specs.declared.statements.Stmt.TheVariants.{Block, If, rolls-Block, rolls-If}
-use Rattle.pc_ast.specs.declared.statements.Stmt.TheOpen.{Block as OpenBlock, If as OpenIf}
-use Rattle.pc_typed.specs.Typing.{numbered_step, numbered, numbered_statement_step, numbered_statement}
+use Rattle.pc_grammar.specs.declared.expressions.Word.{Word}
+use Rattle.pc_grammar.specs.declared.expressions.Expr.{Expr, fold-roll-Expr}
+use Rattle.pc_grammar.specs.declared.expressions.Expr.TheVariants.{Chain, rolls-Chain}
+use Rattle.pc_grammar.specs.declared.expressions.Expr.TheOpen.{Chain as OpenChain}
+use Rattle.pc_grammar.specs.declared.statements.Stmt.{Stmt, fold-roll-Stmt}
+use Rattle.pc_grammar.specs.declared.statements.Stmt.TheVariants.{Block, If, rolls-Block, rolls-If}
+use Rattle.pc_grammar.specs.declared.statements.Stmt.TheOpen.{Block as OpenBlock, If as OpenIf}
+use Rattle.pc_grammar.specs.Typing.{numbered_step, numbered, numbered_statement_step, numbered_statement}
 use Rattle.pc_names.specs.Chains.{numbered_operands, numbered_statements}
 
 pub chain : (cell : Word → ℕ) (first : Expr Word) (rest : List (BinOp × Expr Word)) → numbered cell (Chain first rest) ≡ Chain (numbered cell first) (numbered_operands cell rest)

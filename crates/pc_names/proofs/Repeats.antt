@@ -5,9 +5,9 @@ use Rattle.std.specs.List.{list_any}
 use Rattle.std.proofs.lemmas.List.Folds.{list_any-append}
 use Rattle.pt_base.specs.declared.Rule.{Rule}
 use Rattle.pt_base.specs.declared.Span.{Span}
-use Rattle.pc_ast.specs.declared.expressions.Word.{Word}
-use Rattle.pc_typed.specs.Places.{Place, same_text, is_among, is_start}
-use Rattle.pc_typed.specs.Breaking.{starts_text}
+use Rattle.pc_grammar.specs.declared.expressions.Word.{Word}
+use Rattle.pc_grammar.specs.Places.{Place, same_text, is_among, is_start}
+use Rattle.pc_grammar.specs.Breaking.{starts_text}
 use Rattle.pt_base.specs.First.{Fault, fault_if}
 use Rattle.pt_base.proofs.Elements.{in_none, in_left, in_right, in_either}
 use Rattle.pt_base.proofs.Least.{fault_in, in_fault}

@@ -2,14 +2,14 @@
 use Rattle.std.proofs.Common.{◌≡◌, ℕ, ◌+◌, ◌<◌, Bool, true, false, List, [], ◌∷◌, ◌++◌, Option, None, map, length, take, get_or, refl, sym, ap, ◌∙◌, append_assoc}
 use Rattle.std.specs.Prelude.{find, if◌then◌else◌}
 use Rattle.std.proofs.lemmas.List.{map-append, take_more}
-use Rattle.pc_ast.specs.declared.expressions.Word.{Word}
-use Rattle.pc_ast.specs.declared.expressions.Expr.{Expr}
-use Rattle.pc_ast.specs.declared.statements.Stmt.{Stmt}
-use Rattle.pc_ast.specs.declared.programs.Item.{Item}
-use Rattle.pc_ast.specs.declared.programs.Item.TheVariants.{Function}
-use Rattle.pc_typed.specs.declared.roles.Role.{Role}
-use Rattle.pc_typed.specs.Uses.{Use, value_uses, statements_uses}
-use Rattle.pc_typed.specs.Places.{Place, place_of, locals_places, names_of, Found, Own, found, found_among, is_among, has_name}
+use Rattle.pc_grammar.specs.declared.expressions.Word.{Word}
+use Rattle.pc_grammar.specs.declared.expressions.Expr.{Expr}
+use Rattle.pc_grammar.specs.declared.statements.Stmt.{Stmt}
+use Rattle.pc_grammar.specs.declared.programs.Item.{Item}
+use Rattle.pc_grammar.specs.declared.programs.Item.TheVariants.{Function}
+use Rattle.pc_grammar.specs.declared.roles.Role.{Role}
+use Rattle.pc_grammar.specs.Uses.{Use, value_uses, statements_uses}
+use Rattle.pc_grammar.specs.Places.{Place, place_of, locals_places, names_of, Found, Own, found, found_among, is_among, has_name}
 use Rattle.pc_names.specs.Names.{HasNames}
 use Rattle.pc_names.specs.Sites.{Site, site_of, site_with, sites_of_uses, sites_of_locals, sites_of_item}
 

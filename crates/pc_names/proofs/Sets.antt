@@ -9,8 +9,8 @@ use Rattle.std.proofs.lemmas.List.Sums.{fold-append}
 use Rattle.pt_base.specs.First.{Fault, first_of, fault_if}
 use Rattle.pt_base.specs.declared.Rule.{Rule}
 use Rattle.indexmap.specs.IndexSet.{insert_key}
-use Rattle.pc_ast.specs.declared.expressions.Word.{Word}
-use Rattle.pc_typed.specs.Places.{same_text, is_among}
+use Rattle.pc_grammar.specs.declared.expressions.Word.{Word}
+use Rattle.pc_grammar.specs.Places.{same_text, is_among}
 use Rattle.pc_names.specs.Names.{HasNames, AreOnce}
 use Rattle.pc_names.specs.Started.{one_if}
 use Rattle.pc_names.specs.Faults.{repeats}

@@ -5,13 +5,13 @@ use Rattle.std.specs.List.{position_or_len}
 use Rattle.std.specs.Option.{option_map}
 use Rattle.std.proofs.lemmas.Bool.Decides.{nat_tests}
 use Rattle.std.proofs.lemmas.List.{map-append}
-use Rattle.pc_ast.specs.declared.expressions.Word.{Word}
-use Rattle.pc_ast.specs.declared.programs.Item.{Item}
-use Rattle.pc_ast.specs.declared.programs.Item.TheVariants.{Scalar, Array, Function}
-use Rattle.pc_typed.specs.Places.{word_of, same_text, has_name}
-use Rattle.pc_typed.specs.Typing.{item_cells, cells_of, until, functions_in, own_number, cell_number, function_number}
+use Rattle.pc_grammar.specs.declared.expressions.Word.{Word}
+use Rattle.pc_grammar.specs.declared.programs.Item.{Item}
+use Rattle.pc_grammar.specs.declared.programs.Item.TheVariants.{Scalar, Array, Function}
+use Rattle.pc_grammar.specs.Places.{word_of, same_text, has_name}
+use Rattle.pc_grammar.specs.Typing.{item_cells, cells_of, until, functions_in, own_number, cell_number, function_number}
 use Rattle.pc_names.specs.Known.{starts, cells_in, functions_of, IsKnown}
-use Rattle.pc_typed.proofs.Lists.{position-cons}
+use Rattle.pc_grammar.proofs.Lists.{position-cons}
 
 -- ---- places
 

@@ -3,9 +3,9 @@ use Rattle.std.proofs.Common.{◌≡◌, Bool, true, false, ◌||◌, ◌&&◌, 
 use Rattle.std.specs.Prelude.{not, find, if◌then◌else◌}
 use Rattle.std.specs.List.{list_any}
 use Rattle.std.proofs.lemmas.List.Folds.{list_any-append}
-use Rattle.pc_ast.specs.declared.expressions.Word.{Word}
-use Rattle.pc_ast.specs.declared.programs.Item.{Item}
-use Rattle.pc_typed.specs.Places.{Place, places, Own, found, found_among, same_text, is_among, has_name, is_start, starts, is_main, is_thread}
+use Rattle.pc_grammar.specs.declared.expressions.Word.{Word}
+use Rattle.pc_grammar.specs.declared.programs.Item.{Item}
+use Rattle.pc_grammar.specs.Places.{Place, places, Own, found, found_among, same_text, is_among, has_name, is_start, starts, is_main, is_thread}
 use Rattle.pc_names.specs.Sites.{site_of, sites_of}
 use Rattle.pc_names.specs.Started.{is_own, one_if, started_items}
 

@@ -1,14 +1,14 @@
 -- The names of trees, constructor by constructor.
 use Rattle.std.proofs.Common.{◌≡◌, List, ◌++◌, Some, sym, ap, ◌∙◌}
 use Rattle.pt_base.specs.declared.operators.BinOp.{BinOp}
-use Rattle.pc_ast.specs.declared.expressions.Word.{Word}
-use Rattle.pc_ast.specs.declared.expressions.Expr.{Expr, fold-roll-Expr}
-use Rattle.pc_ast.specs.declared.expressions.Expr.TheVariants.{Chain, rolls-Chain}
-use Rattle.pc_ast.specs.declared.expressions.Expr.TheOpen.{Chain as OpenChain}
-use Rattle.pc_ast.specs.declared.statements.Stmt.{Stmt, fold-roll-Stmt}
-use Rattle.pc_ast.specs.declared.statements.Stmt.TheVariants.{Block, If, rolls-Block, rolls-If}
-use Rattle.pc_ast.specs.declared.statements.Stmt.TheOpen.{Block as OpenBlock, If as OpenIf}
-use Rattle.pc_typed.specs.Uses.{Use, expression_step, expression_uses, statement_step, statement_uses, statements_uses}
+use Rattle.pc_grammar.specs.declared.expressions.Word.{Word}
+use Rattle.pc_grammar.specs.declared.expressions.Expr.{Expr, fold-roll-Expr}
+use Rattle.pc_grammar.specs.declared.expressions.Expr.TheVariants.{Chain, rolls-Chain}
+use Rattle.pc_grammar.specs.declared.expressions.Expr.TheOpen.{Chain as OpenChain}
+use Rattle.pc_grammar.specs.declared.statements.Stmt.{Stmt, fold-roll-Stmt}
+use Rattle.pc_grammar.specs.declared.statements.Stmt.TheVariants.{Block, If, rolls-Block, rolls-If}
+use Rattle.pc_grammar.specs.declared.statements.Stmt.TheOpen.{Block as OpenBlock, If as OpenIf}
+use Rattle.pc_grammar.specs.Uses.{Use, expression_step, expression_uses, statement_step, statement_uses, statements_uses}
 use Rattle.pc_names.specs.Rest.{chain_uses}
 
 pub chain : (first : Expr Word) (rest : List (BinOp × Expr Word)) → expression_uses (Chain first rest) ≡ expression_uses first ++ chain_uses rest

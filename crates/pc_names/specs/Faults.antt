@@ -3,10 +3,10 @@ use Rattle.std.specs.Prelude.{ℕ, ◌&&◌, not, List, [], ◌∷◌, ◌++◌,
 use Rattle.std.specs.List.{list_any}
 use Rattle.pt_base.specs.declared.Rule.{Rule}
 use Rattle.pt_base.specs.declared.Rule.TheVariants.{N1, N2, N3, N4, N5, N6, N7, N8}
-use Rattle.pc_ast.specs.declared.expressions.Word.{Word}
-use Rattle.pc_ast.specs.declared.programs.Item.{Item}
-use Rattle.pc_typed.specs.Places.{word_of, is_among, is_start, is_main, is_thread}
-use Rattle.pc_typed.specs.Breaking.{is_wrong, is_written, is_input, is_miscounted, is_main_item, is_named_main, main_place, own_of, holds_some_pause}
+use Rattle.pc_grammar.specs.declared.expressions.Word.{Word}
+use Rattle.pc_grammar.specs.declared.programs.Item.{Item}
+use Rattle.pc_grammar.specs.Places.{word_of, is_among, is_start, is_main, is_thread}
+use Rattle.pc_grammar.specs.Breaking.{is_wrong, is_written, is_input, is_miscounted, is_main_item, is_named_main, main_place, own_of, holds_some_pause}
 use Rattle.pt_base.specs.First.{Fault, fault_if}
 use Rattle.pc_names.specs.Sites.{Site, sites_of}
 use Rattle.pc_names.specs.Started.{is_unknown, started}

@@ -1,9 +1,9 @@
 -- What is known of the items before a function: their names, and the numbers of their cells and functions.
 use Rattle.std.specs.Prelude.{◌≡◌, ℕ, ◌+◌, List, [], ◌∷◌, map, length}
-use Rattle.pc_ast.specs.declared.expressions.Word.{Word}
-use Rattle.pc_ast.specs.declared.programs.Item.{Item}
-use Rattle.pc_typed.specs.Places.{word_of}
-use Rattle.pc_typed.specs.Typing.{item_cells, cells_of, functions_in}
+use Rattle.pc_grammar.specs.declared.expressions.Word.{Word}
+use Rattle.pc_grammar.specs.declared.programs.Item.{Item}
+use Rattle.pc_grammar.specs.Places.{word_of}
+use Rattle.pc_grammar.specs.Typing.{item_cells, cells_of, functions_in}
 
 -- the number before each item of things of which an item has so many, counted from n
 abbrev pub starts : (Item → ℕ) → ℕ → List Item → List ℕ

@@ -1,10 +1,10 @@
 -- Names that are kept as a set, and names that stand there once.
 use Rattle.std.specs.Prelude.{◌≡◌, ℕ, ◌<◌, ◌^◌, false, List, ◌∷◌, ◌++◌, Option, Contains, map, length, find}
-use Rattle.pc_ast.specs.declared.expressions.Word.{Word}
-use Rattle.pc_ast.specs.declared.programs.Item.{Item}
-use Rattle.pc_typed.specs.Places.{word_of, is_among, has_name}
-use Rattle.pc_typed.specs.Breaking.{own_of}
-use Rattle.pc_typed.specs.Typing.{cells_of, functions_in, cell_number, function_number}
+use Rattle.pc_grammar.specs.declared.expressions.Word.{Word}
+use Rattle.pc_grammar.specs.declared.programs.Item.{Item}
+use Rattle.pc_grammar.specs.Places.{word_of, is_among, has_name}
+use Rattle.pc_grammar.specs.Breaking.{own_of}
+use Rattle.pc_grammar.specs.Typing.{cells_of, functions_in, cell_number, function_number}
 
 -- the same names, however often each stands there
 abbrev pub HasNames : List Word → List Word → Type 0

@@ -6,8 +6,8 @@ use Rattle.pt_base.specs.declared.Refusal.{Refusal}
 use Rattle.pt_base.specs.declared.Refusal.TheVariants.{Broken, Memory}
 use Rattle.pc_grammar.specs.Trees.{Program}
 use Rattle.pt_base.specs.First.{IsFirst}
-use Rattle.pc_typed.specs.Breaking.{Breaks}
-use Rattle.pc_typed.specs.Typing.{Typing, typing_of}
+use Rattle.pc_grammar.specs.Breaking.{Breaks}
+use Rattle.pc_grammar.specs.Typing.{Typing, typing_of}
 
 -- no rule on names is broken, and this is the tree with numbers for names
 pub record Resolves (program : Program) (typing : Typing) : Type 0 where

@@ -1,11 +1,11 @@
 -- The places of a program, each with what it names.
 use Rattle.std.specs.Prelude.{Bool, true, false, List, Option, map}
-use Rattle.pc_ast.specs.declared.expressions.Word.{Word}
-use Rattle.pc_ast.specs.declared.expressions.Expr.{Expr}
-use Rattle.pc_ast.specs.declared.programs.Item.{Item}
-use Rattle.pc_typed.specs.declared.roles.Role.{Role}
-use Rattle.pc_typed.specs.Uses.{Use}
-use Rattle.pc_typed.specs.Places.{Place, place_of, locals_places, item_places, places_from, places, Found, Own, found, found_among}
+use Rattle.pc_grammar.specs.declared.expressions.Word.{Word}
+use Rattle.pc_grammar.specs.declared.expressions.Expr.{Expr}
+use Rattle.pc_grammar.specs.declared.programs.Item.{Item}
+use Rattle.pc_grammar.specs.declared.roles.Role.{Role}
+use Rattle.pc_grammar.specs.Uses.{Use}
+use Rattle.pc_grammar.specs.Places.{Place, place_of, locals_places, item_places, places_from, places, Found, Own, found, found_among}
 
 -- a name, what it does where it stands, and what it is there
 pub record Site : Type 0 where

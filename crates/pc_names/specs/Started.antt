@@ -1,7 +1,7 @@
 -- What a place names, and the names in `PAR`s.
 use Rattle.std.specs.Prelude.{Bool, true, false, ◌&&◌, not, List, [], ◌∷◌, ◌++◌}
-use Rattle.pc_ast.specs.declared.expressions.Word.{Word}
-use Rattle.pc_typed.specs.Places.{Found, Unknown, Own, is_start}
+use Rattle.pc_grammar.specs.declared.expressions.Word.{Word}
+use Rattle.pc_grammar.specs.Places.{Found, Unknown, Own, is_start}
 use Rattle.pc_names.specs.Sites.{Site}
 
 abbrev pub is_unknown : Found → Bool

@@ -1,11 +1,11 @@
 ghost use Rattle.std.specs.Prelude.{◌≡◌, ◌+◌, ◌<◌, [], IfOk, length, take, find};
 ghost use Rattle.std.specs.Option.{option_map};
-ghost use Rattle.pc_typed.specs.Places.{has_name};
+ghost use Rattle.pc_grammar.specs.Places.{has_name};
 
 use crate::names::Name;
 use crate::sites::name_of;
 use indexmap::IndexMap;
-use pc_ast::{Item, Word};
+use pc_grammar::{Item, Word};
 use pt_base::Memory;
 use std::alloc::Global;
 use std::marker::Model;
@@ -22,11 +22,11 @@ impl<'a> Model for Before<'a> {
     ghost use Rattle.std.specs.Option.{option_map};
     ghost use Rattle.std.specs.Coded.{codes};
     ghost use Rattle.indexmap.specs.IndexMap.{get};
-    ghost use Rattle.pc_ast.specs.contracts.expressions.Word as w;
-    ghost use Rattle.pc_ast.specs.contracts.expressions.Expr as e;
-    ghost use Rattle.pc_ast.specs.contracts.statements.Stmt as s;
-    ghost use Rattle.pc_ast.specs.declared.programs.Item.{Item as SpecItem};
-    ghost use Rattle.pc_typed.specs.Places.{same_text};
+    ghost use Rattle.pc_grammar.specs.contracts.expressions.Word as w;
+    ghost use Rattle.pc_grammar.specs.contracts.expressions.Expr as e;
+    ghost use Rattle.pc_grammar.specs.contracts.statements.Stmt as s;
+    ghost use Rattle.pc_grammar.specs.declared.programs.Item.{Item as SpecItem};
+    ghost use Rattle.pc_grammar.specs.Places.{same_text};
     ghost use Rattle.pc_names.specs.Names.{FindsItems};
 
     ghost coded = { Prim.hlevel (codes, (e.the_row w.the_row).coded, (s.the_row w.the_row).coded) };

@@ -1,9 +1,8 @@
 ghost use Rattle.std.specs.Prelude.{◌≡◌, ◌++◌, OnOk, IfOk, map};
-ghost use Rattle.pc_typed.specs.Places.{names_of};
-ghost use Rattle.pc_typed.specs.Typing.{cell_of, item_cells, cells_of};
+ghost use Rattle.pc_grammar.specs.Places.{names_of};
+ghost use Rattle.pc_grammar.specs.Typing.{cell_of, item_cells, cells_of};
 
-use pc_ast::{CellKind, Expr, Item, Word};
-use pc_typed::Cell;
+use pc_grammar::{Cell, CellKind, Expr, Item, Word};
 use pt_base::{Memory, Text};
 use std::alloc::Global;
 

@@ -1,12 +1,12 @@
 ghost use Rattle.std.specs.Prelude.{◌≡◌, ◌++◌, [], IfOk, map};
-ghost use Rattle.pc_typed.specs.Breaking.{own_of};
-ghost use Rattle.pc_typed.specs.Places.{word_of, names_of};
+ghost use Rattle.pc_grammar.specs.Breaking.{own_of};
+ghost use Rattle.pc_grammar.specs.Places.{word_of, names_of};
 ghost use Rattle.pt_base.specs.First.{first_of};
 ghost use Rattle.pc_names.specs.Faults.{repeats, own_faults};
 
 use crate::names::Names;
 use crate::sites::name_of;
-use pc_ast::{Expr, Item, Word};
+use pc_grammar::{Expr, Item, Word};
 use pt_base::{First, Memory, Rule};
 use std::alloc::Global;
 

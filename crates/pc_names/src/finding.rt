@@ -1,6 +1,6 @@
 ghost use Rattle.std.specs.Prelude.{◌≡◌, None, [], IfOk, find};
 ghost use Rattle.std.specs.List.{list_any};
-ghost use Rattle.pc_typed.specs.Breaking as breaking;
+ghost use Rattle.pc_grammar.specs.Breaking as breaking;
 ghost use Rattle.pc_names.specs.Started.{started};
 ghost use Rattle.pt_base.specs.First.{first_of};
 ghost use Rattle.pc_names.specs.Faults.{repeats, site_faults, sites_faults, pause_faults, faults};
@@ -8,8 +8,7 @@ ghost use Rattle.pc_names.specs.Faults.{repeats, site_faults, sites_faults, paus
 use crate::faults::{note_items_twice, note_own_twice, note_repeats};
 use crate::sites::{Site, all_sites, name_of};
 use crate::threads::{Threads, is_main, started_words};
-use pc_ast::Item;
-use pc_typed::hold_pauses;
+use pc_grammar::{Item, hold_pauses};
 use pt_base::{First, Memory, Rule, Span};
 use std::alloc::Global;
 

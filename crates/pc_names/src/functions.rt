@@ -1,7 +1,7 @@
 ghost use Rattle.std.specs.Prelude.{◌≡◌, ◌+◌, ◌<◌, ◌^◌, ◌++◌, [], OnOk, IfOk, length};
-ghost use Rattle.pc_typed.specs.Places as places;
-ghost use Rattle.pc_typed.specs.Breaking.{own_of};
-ghost use Rattle.pc_typed.specs.Typing.{cells_of, numbers_from, typed_locals, typed_item, typed_from};
+ghost use Rattle.pc_grammar.specs.Places as places;
+ghost use Rattle.pc_grammar.specs.Breaking.{own_of};
+ghost use Rattle.pc_grammar.specs.Typing.{cells_of, numbers_from, typed_locals, typed_item, typed_from};
 ghost use Rattle.pc_names.specs.Names.{AreOnce, CanBeNumbered};
 
 use crate::known::Known;
@@ -9,8 +9,7 @@ use crate::names::Names;
 use crate::scopes::Scope;
 use crate::threads::Threads;
 use crate::trees::{statements, value};
-use pc_ast::{Expr, Item, Word};
-use pc_typed::Function;
+use pc_grammar::{Expr, Function, Item, Word};
 use pt_base::{Memory, Text};
 use sqlite_items::Items;
 use std::alloc::Global;

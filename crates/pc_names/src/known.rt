@@ -1,10 +1,10 @@
 ghost use Rattle.std.specs.Prelude.{◌≡◌, ◌+◌, ◌<◌, ◌^◌, [], ◌∷◌, IfOk, length, take, slice_get, unwrap_or};
-ghost use Rattle.pc_typed.specs.Typing.{item_cells, cells_of, until, functions_in, function_number};
+ghost use Rattle.pc_grammar.specs.Typing.{item_cells, cells_of, until, functions_in, function_number};
 ghost use Rattle.pc_names.specs.Names.{CanBeNumbered};
 
 use crate::names::Names;
 use crate::sites::name_of;
-use pc_ast::{Item, Word};
+use pc_grammar::{Item, Word};
 use pt_base::Memory;
 use std::alloc::Global;
 use std::marker::Model;
@@ -57,10 +57,10 @@ pub struct Known<'a> {
 impl<'a> Model for Known<'a> {
     ghost use Rattle.std.specs.Prelude.{List};
     ghost use Rattle.std.specs.Coded.{codes};
-    ghost use Rattle.pc_ast.specs.contracts.expressions.Word as w;
-    ghost use Rattle.pc_ast.specs.contracts.expressions.Expr as e;
-    ghost use Rattle.pc_ast.specs.contracts.statements.Stmt as s;
-    ghost use Rattle.pc_ast.specs.declared.programs.Item.{Item as SpecItem};
+    ghost use Rattle.pc_grammar.specs.contracts.expressions.Word as w;
+    ghost use Rattle.pc_grammar.specs.contracts.expressions.Expr as e;
+    ghost use Rattle.pc_grammar.specs.contracts.statements.Stmt as s;
+    ghost use Rattle.pc_grammar.specs.declared.programs.Item.{Item as SpecItem};
     ghost use Rattle.pc_names.specs.Known.{IsKnown};
 
     ghost coded = { Prim.hlevel (codes, (e.the_row w.the_row).coded, (s.the_row w.the_row).coded) };

@@ -1,9 +1,9 @@
 ghost use Rattle.std.specs.Prelude.{◌≡◌, ◌++◌, ◌∷◌, [], false, not, IfOk, OnOk, position};
-ghost use Rattle.pc_typed.specs.Places.{same_text, is_among};
+ghost use Rattle.pc_grammar.specs.Places.{same_text, is_among};
 ghost use Rattle.indexmap.specs.IndexSet.{insert_key};
 
 use indexmap::IndexSet;
-use pc_ast::Word;
+use pc_grammar::Word;
 use pt_base::Memory;
 use std::alloc::Global;
 use std::hash::{Hash, Hasher};
@@ -16,7 +16,7 @@ pub struct Name<'a> {
 }
 
 impl<'a> Model for Name<'a> {
-    ghost use Rattle.pc_ast.specs.declared.expressions.Word.{Word as SpecWord};
+    ghost use Rattle.pc_grammar.specs.declared.expressions.Word.{Word as SpecWord};
 
     ghost Value = { SpecWord };
 
@@ -33,7 +33,7 @@ impl<'a> Name<'a> {
 }
 
 impl<'a> PartialEq for Name<'a> {
-    ghost use Rattle.pc_typed.specs.Places.{same_text};
+    ghost use Rattle.pc_grammar.specs.Places.{same_text};
     ghost use Rattle.std.specs.Cmp.{partial_equiv_from_equiv};
     ghost use Rattle.pc_names.specs.Equal.{same_text_equiv};
 
@@ -73,7 +73,7 @@ pub struct Names<'a> {
 
 impl<'a> Model for Names<'a> {
     ghost use Rattle.std.specs.Prelude.{List};
-    ghost use Rattle.pc_ast.specs.declared.expressions.Word.{Word as SpecWord};
+    ghost use Rattle.pc_grammar.specs.declared.expressions.Word.{Word as SpecWord};
 
     ghost Value = { List SpecWord };
 

@@ -1,6 +1,6 @@
 ghost use Rattle.std.specs.Prelude.{◌≡◌, ◌<◌, ◌^◌, IfOk, take, position, unwrap_or};
-ghost use Rattle.pc_typed.specs.Breaking as breaking;
-ghost use Rattle.pc_typed.specs.Typing.{functions_in, typing_of};
+ghost use Rattle.pc_grammar.specs.Breaking as breaking;
+ghost use Rattle.pc_grammar.specs.Typing.{functions_in, typing_of};
 ghost use Rattle.pc_names.specs.Resolving.{IsResolved};
 ghost use Rattle.pt_base.specs.declared.Rule.{Rule};
 ghost use Rattle.pt_base.specs.declared.Span.{Span};
@@ -10,9 +10,7 @@ use crate::finding::{first_fault, is_main_item};
 use crate::functions::functions;
 use crate::known::functions_with;
 use crate::threads::Threads;
-use pc_ast::Item;
-use pc_grammar::Program;
-use pc_typed::Typed;
+use pc_grammar::{Item, Program, Typed};
 use pt_base::{Memory, Refusal};
 use std::alloc::Global;
 
@@ -46,7 +44,7 @@ fn main_number(items: &[Item]) -> u32
 }
 
 /// The program with numbers for names, where no rule on names is broken.
-#[tactic(auto, unfolding(pc_typed::specs::Typing::typing_of))]
+#[tactic(auto, unfolding(pc_grammar::specs::Typing::typing_of))]
 fn typed(alloc: Global, program: &Program, threads: &Threads<'_>) -> Result<Typed, Memory>
     requires threads { threads.now ≡ program.now.items }
     requires unbroken { (rule : Rule) (span : Span) → breaking.Breaks program.now.items program.now.length rule span → ⊥ }

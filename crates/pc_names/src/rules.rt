@@ -1,10 +1,9 @@
 ghost use Rattle.std.specs.Prelude.{◌≡◌, length};
-ghost use Rattle.pc_typed.specs.Breaking as breaking;
-ghost use Rattle.pc_typed.specs.Places.{Known};
+ghost use Rattle.pc_grammar.specs.Breaking as breaking;
+ghost use Rattle.pc_grammar.specs.Places.{Known};
 
 use crate::threads::Threads;
-use pc_ast::{CellKind, Item, Word};
-use pc_typed::Role;
+use pc_grammar::{CellKind, Item, Role, Word};
 
 /// Whether this may not be done with a cell of one word.
 pub fn wrong_for_word(role: Role) -> bool

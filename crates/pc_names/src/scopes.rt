@@ -1,10 +1,10 @@
 ghost use Rattle.std.specs.Prelude.{◌≡◌, ◌+◌, ◌<◌, ◌^◌, length};
-ghost use Rattle.pc_typed.specs.Typing.{cells_of};
+ghost use Rattle.pc_grammar.specs.Typing.{cells_of};
 ghost use Rattle.pc_names.specs.Names.{cell_in, function_in};
 
 use crate::known::Known;
 use crate::names::Names;
-use pc_ast::Word;
+use pc_grammar::Word;
 use std::marker::Model;
 
 /// What the names of a function are numbered by: the items before it, and what it declares itself.
@@ -17,12 +17,12 @@ pub struct Scope<'a, 'b, 'k, 'o> {
 impl<'a, 'b, 'k, 'o> Model for Scope<'a, 'b, 'k, 'o> {
     ghost use Rattle.std.specs.Prelude.{List, ◌+◌, ◌<◌, ◌^◌, length};
     ghost use Rattle.std.specs.Coded.{codes};
-    ghost use Rattle.pc_ast.specs.contracts.expressions.Word as w;
-    ghost use Rattle.pc_ast.specs.contracts.expressions.Expr as e;
-    ghost use Rattle.pc_ast.specs.contracts.statements.Stmt as s;
-    ghost use Rattle.pc_ast.specs.declared.expressions.Word.{Word as SpecWord};
-    ghost use Rattle.pc_ast.specs.declared.programs.Item.{Item as SpecItem};
-    ghost use Rattle.pc_typed.specs.Typing.{cells_of};
+    ghost use Rattle.pc_grammar.specs.contracts.expressions.Word as w;
+    ghost use Rattle.pc_grammar.specs.contracts.expressions.Expr as e;
+    ghost use Rattle.pc_grammar.specs.contracts.statements.Stmt as s;
+    ghost use Rattle.pc_grammar.specs.declared.expressions.Word.{Word as SpecWord};
+    ghost use Rattle.pc_grammar.specs.declared.programs.Item.{Item as SpecItem};
+    ghost use Rattle.pc_grammar.specs.Typing.{cells_of};
 
     ghost coded = { Prim.hlevel (codes, w.the_row.coded, (e.the_row w.the_row).coded, (s.the_row w.the_row).coded) };
 

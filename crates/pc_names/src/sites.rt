@@ -1,7 +1,7 @@
 ghost use Rattle.std.specs.Prelude.{◌≡◌, ◌++◌, ◌&&◌, not, OnOk, IfOk};
-ghost use Rattle.pc_typed.specs.Uses.{value_uses, statements_uses};
-ghost use Rattle.pc_typed.specs.Places.{word_of, place_of, names_of, is_start};
-ghost use Rattle.pc_typed.specs.Breaking as breaking;
+ghost use Rattle.pc_grammar.specs.Uses.{value_uses, statements_uses};
+ghost use Rattle.pc_grammar.specs.Places.{word_of, place_of, names_of, is_start};
+ghost use Rattle.pc_grammar.specs.Breaking as breaking;
 ghost use Rattle.pc_names.specs.Started.{is_own, is_unknown};
 ghost use Rattle.pc_names.specs.Names.{HasNames};
 ghost use Rattle.pc_names.specs.Sites.{site_of, sites_of_uses, sites_of_locals, sites_of_item, sites_of};
@@ -11,8 +11,7 @@ use crate::names::Names;
 use crate::rules::{is_input, is_miscounted, is_written, wrong_for_item, wrong_for_word};
 use crate::threads::Threads;
 use crate::uses::{Use, statements, value};
-use pc_ast::{Expr, Item, Stmt, Word};
-use pc_typed::Role;
+use pc_grammar::{Expr, Item, Role, Stmt, Word};
 use pt_base::Memory;
 use std::alloc::Global;
 use std::marker::Model;
@@ -30,9 +29,9 @@ impl<'a> Model for Site<'a> {
     ghost use Rattle.std.specs.Option.{option_map};
     ghost use Rattle.pc_names.specs.Sites.{Site as SpecSite, site_with};
     ghost use Rattle.std.specs.Coded.{codes};
-    ghost use Rattle.pc_ast.specs.contracts.expressions.Word as w;
-    ghost use Rattle.pc_ast.specs.contracts.expressions.Expr as e;
-    ghost use Rattle.pc_ast.specs.contracts.statements.Stmt as s;
+    ghost use Rattle.pc_grammar.specs.contracts.expressions.Word as w;
+    ghost use Rattle.pc_grammar.specs.contracts.expressions.Expr as e;
+    ghost use Rattle.pc_grammar.specs.contracts.statements.Stmt as s;
 
     ghost coded = { Prim.hlevel (codes, (e.the_row w.the_row).coded, (s.the_row w.the_row).coded) };
 
@@ -71,7 +70,7 @@ impl<'a> Site<'a> {
     }
 
     /// Whether the name is of the wrong kind.
-    #[tactic(auto, unfolding(pc_typed::specs::Breaking::is_wrong))]
+    #[tactic(auto, unfolding(pc_grammar::specs::Breaking::is_wrong))]
     pub fn is_wrong(&self, threads: &Threads<'_>) -> bool
         ensures { result ≡ breaking.is_wrong threads.now self.now.role self.now.found }
     {

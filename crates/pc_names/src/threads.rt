@@ -1,14 +1,14 @@
 ghost use Rattle.std.specs.Prelude.{◌≡◌, ◌||◌, IfOk, map};
-ghost use Rattle.pc_ast.specs.declared.expressions.Word.{Word as SpecWord};
-ghost use Rattle.pc_typed.specs.Places.{is_among};
-ghost use Rattle.pc_typed.specs.Places as places;
+ghost use Rattle.pc_grammar.specs.declared.expressions.Word.{Word as SpecWord};
+ghost use Rattle.pc_grammar.specs.Places.{is_among};
+ghost use Rattle.pc_grammar.specs.Places as places;
 ghost use Rattle.pc_names.specs.Sites.{sites_of};
 ghost use Rattle.pc_names.specs.Names.{HasNames};
 ghost use Rattle.pc_names.specs.Started.{started, started_item, started_items};
 
 use crate::names::Names;
 use crate::sites::Site;
-use pc_ast::{Item, Word};
+use pc_grammar::{Item, Word};
 use pt_base::Memory;
 use std::alloc::Global;
 use std::marker::Model;
@@ -30,10 +30,10 @@ pub struct Threads<'a> {
 impl<'a> Model for Threads<'a> {
     ghost use Rattle.std.specs.Prelude.{List};
     ghost use Rattle.std.specs.Coded.{codes};
-    ghost use Rattle.pc_ast.specs.contracts.expressions.Word as w;
-    ghost use Rattle.pc_ast.specs.contracts.expressions.Expr as e;
-    ghost use Rattle.pc_ast.specs.contracts.statements.Stmt as s;
-    ghost use Rattle.pc_ast.specs.declared.programs.Item.{Item as SpecItem};
+    ghost use Rattle.pc_grammar.specs.contracts.expressions.Word as w;
+    ghost use Rattle.pc_grammar.specs.contracts.expressions.Expr as e;
+    ghost use Rattle.pc_grammar.specs.contracts.statements.Stmt as s;
+    ghost use Rattle.pc_grammar.specs.declared.programs.Item.{Item as SpecItem};
     ghost use Rattle.pc_names.specs.Sites.{sites_of};
     ghost use Rattle.pc_names.specs.Names.{HasNames};
     ghost use Rattle.pc_names.specs.Started.{started_items};

@@ -1,10 +1,10 @@
 ghost use Rattle.std.specs.Prelude.{◌≡◌, IfOk, map};
-ghost use Rattle.pc_typed.specs.Typing.{numbered, numbered_value, numbered_goal, numbered_statement};
+ghost use Rattle.pc_grammar.specs.Typing.{numbered, numbered_value, numbered_goal, numbered_statement};
 ghost use Rattle.pc_names.specs.Names.{cell_in, function_in};
 ghost use Rattle.pc_names.specs.Chains.{numbered_operands, numbered_statements};
 
 use crate::scopes::Scope;
-use pc_ast::{Expr, Goal, Stmt, Word};
+use pc_grammar::{Expr, Goal, Stmt, Word};
 use pt_base::{BinOp, Memory};
 use sqlite_items::{Boxed, Items};
 use std::alloc::Global;

@@ -1,9 +1,8 @@
 ghost use Rattle.std.specs.Prelude.{◌≡◌, ◌++◌, ◌∷◌, OnOk, map, length};
-ghost use Rattle.pc_typed.specs.Uses.{use_of, expression_uses, expressions_uses, value_uses, goal_uses, is_taken, statement_uses, statements_uses};
+ghost use Rattle.pc_grammar.specs.Uses.{use_of, expression_uses, expressions_uses, value_uses, goal_uses, is_taken, statement_uses, statements_uses};
 ghost use Rattle.pc_names.specs.Rest.{chain_uses};
 
-use pc_ast::{Expr, Goal, Stmt, Word};
-use pc_typed::Role;
+use pc_grammar::{Expr, Goal, Role, Stmt, Word};
 use pt_base::{BinOp, Memory};
 use std::marker::Model;
 
@@ -15,8 +14,8 @@ pub struct Use<'a> {
 }
 
 impl<'a> Model for Use<'a> {
-    ghost use Rattle.pc_typed.specs.Uses.{Use as SpecUse, use_of};
-    ghost use Rattle.pc_ast.specs.declared.expressions.Word.{Word};
+    ghost use Rattle.pc_grammar.specs.Uses.{Use as SpecUse, use_of};
+    ghost use Rattle.pc_grammar.specs.declared.expressions.Word.{Word};
 
     ghost Value = { SpecUse Word };
 

@@ -1,6 +1,6 @@
 -- A failure behind a front that was read is a failure of the whole.
 use Rattle.std.proofs.Common.{◌≡◌, ℕ, List, [], ◌∷◌, ◌++◌, length, refl, sym, ap, subst, ◌∙◌, append_assoc}
-use Rattle.pc_lex.specs.declared.tokens.Token.{Token}
+use Rattle.pc_grammar.specs.declared.tokens.Token.{Token}
 use Rattle.pc_grammar.specs.Refusing.{first, IsViable}
 use Rattle.pc_parse.specs.Reading.{Takes, Fails}
 

@@ -1,9 +1,9 @@
 -- One lemma for each way on which the parser of a level answers.
 use Rattle.std.proofs.Common.{◌≡◌, ℕ, suc, ◌<◌, ◌≤◌, List, [], ◌∷◌, ◌++◌, Some, length, refl, sym, ap, subst, ◌∙◌, append_assoc, append-nil, length-append, arith}
 use Rattle.pt_base.specs.declared.operators.BinOp.{BinOp}
-use Rattle.pc_lex.specs.declared.tokens.Token.{Token}
-use Rattle.pc_ast.specs.declared.expressions.Word.{Word}
-use Rattle.pc_ast.specs.declared.expressions.Expr.{Expr}
+use Rattle.pc_grammar.specs.declared.tokens.Token.{Token}
+use Rattle.pc_grammar.specs.declared.expressions.Word.{Word}
+use Rattle.pc_grammar.specs.declared.expressions.Expr.{Expr}
 use Rattle.pc_parse.specs.declared.reading.Failure.{Failure}
 use Rattle.pc_parse.specs.declared.reading.Failure.TheVariants.{Broken, Memory}
 use Rattle.pc_grammar.specs.Signs.{binary_in, level_of}

@@ -1,11 +1,11 @@
 -- One lemma for each way on which the parser of a function's frame answers.
 use Rattle.std.proofs.Common.{◌≡◌, ℕ, List, [], ◌∷◌, ◌++◌, Option, Some, length, refl, sym, ap, subst, ◌∙◌, append_assoc, append-nil}
-use Rattle.pc_lex.specs.declared.tokens.Sort.{Sort}
-use Rattle.pc_lex.specs.declared.tokens.Sort.TheVariants.{IntWord, CloseBrace, ReturnWord, OpenBrace}
-use Rattle.pc_lex.specs.declared.tokens.Token.{Token}
-use Rattle.pc_ast.specs.declared.expressions.Word.{Word}
-use Rattle.pc_ast.specs.declared.expressions.Expr.{Expr}
-use Rattle.pc_ast.specs.declared.statements.Stmt.{Stmt}
+use Rattle.pc_grammar.specs.declared.tokens.Sort.{Sort}
+use Rattle.pc_grammar.specs.declared.tokens.Sort.TheVariants.{IntWord, CloseBrace, ReturnWord, OpenBrace}
+use Rattle.pc_grammar.specs.declared.tokens.Token.{Token}
+use Rattle.pc_grammar.specs.declared.expressions.Word.{Word}
+use Rattle.pc_grammar.specs.declared.expressions.Expr.{Expr}
+use Rattle.pc_grammar.specs.declared.statements.Stmt.{Stmt}
 use Rattle.pc_parse.specs.declared.reading.Failure.{Failure}
 use Rattle.pc_parse.specs.declared.reading.Failure.TheVariants.{Broken, Memory}
 use Rattle.pc_grammar.specs.Refusing.{first}
@@ -65,7 +65,7 @@ frame_parts (framed {w = w} {u = u} {v = v} b is_brace d e g) i rest eq = record
   whole = eq ∙ append_assoc w (b ∷ (u ++ v)) rest ∙ ap (λ x. w ++ b ∷ x) (append_assoc u v rest);
 }
 
-pub frame_first : {source : List ℕ} {w : List Token} {f : Frame} → SpellsFrame source w f → (rest : List Token) → first (w ++ rest) ≡ Some Rattle.pc_lex.specs.declared.tokens.Sort.TheVariants.OpenParenthesis
+pub frame_first : {source : List ℕ} {w : List Token} {f : Frame} → SpellsFrame source w f → (rest : List Token) → first (w ++ rest) ≡ Some Rattle.pc_grammar.specs.declared.tokens.Sort.TheVariants.OpenParenthesis
 frame_first (framed {w = w} {u = u} {v = v} b is_brace d e g) rest = ap first (append_assoc w (b ∷ (u ++ v)) rest) ∙ parameters_first d (b ∷ (u ++ v) ++ rest)
 
 same_frame : (ps ps' : List Word) (ls ls' : List (Word × Option (Expr Word))) (all all' : List (Stmt Word)) → ps ≡ ps' → ls ≡ ls' → all ≡ all' → ◌≡◌ {A = Frame} (record { parameters = ps; locals = ls; body = all }) (record { parameters = ps'; locals = ls'; body = all' })

@@ -1,9 +1,9 @@
 -- Lists in parentheses.
 use Rattle.std.proofs.Common.{◌≡◌, ℕ, List, [], ◌∷◌, ◌++◌, ◌⊎◌, inl, inr, ⊎_elim, Some, length, refl, sym, ap, ◌∙◌, append_assoc}
-use Rattle.pc_lex.specs.declared.tokens.Sort.TheVariants.{Name, Comma, CloseParenthesis, OpenParenthesis}
-use Rattle.pc_lex.specs.declared.tokens.Token.{Token}
-use Rattle.pc_ast.specs.declared.expressions.Word.{Word}
-use Rattle.pc_ast.specs.declared.expressions.Expr.{Expr}
+use Rattle.pc_grammar.specs.declared.tokens.Sort.TheVariants.{Name, Comma, CloseParenthesis, OpenParenthesis}
+use Rattle.pc_grammar.specs.declared.tokens.Token.{Token}
+use Rattle.pc_grammar.specs.declared.expressions.Word.{Word}
+use Rattle.pc_grammar.specs.declared.expressions.Expr.{Expr}
 use Rattle.pc_parse.specs.declared.reading.Failure.{Failure}
 use Rattle.pc_parse.specs.declared.reading.Failure.TheVariants.{Broken, Memory}
 use Rattle.pc_grammar.specs.declared.marks.Opening.TheVariants.{Nothing as NothingOpening}

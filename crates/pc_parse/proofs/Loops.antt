@@ -1,10 +1,10 @@
 -- One lemma for each way on which the parsers of a loop's head and of an abort's condition answer.
 use Rattle.std.proofs.Common.{◌≡◌, ℕ, List, [], ◌∷◌, ◌++◌, Option, Some, None, length, refl, sym, ap, subst, ◌∙◌, append_assoc, append-nil}
-use Rattle.pc_lex.specs.declared.tokens.Sort.TheVariants.{Number as NumberSort, Semicolon, Hash, WhenWord, PreWord, OpenParenthesis, CloseParenthesis}
-use Rattle.pc_lex.specs.declared.tokens.Token.{Token}
-use Rattle.pc_ast.specs.declared.expressions.Word.{Word}
-use Rattle.pc_ast.specs.declared.expressions.Expr.{Expr}
-use Rattle.pc_ast.specs.declared.expressions.Expr.TheVariants.{Number}
+use Rattle.pc_grammar.specs.declared.tokens.Sort.TheVariants.{Number as NumberSort, Semicolon, Hash, WhenWord, PreWord, OpenParenthesis, CloseParenthesis}
+use Rattle.pc_grammar.specs.declared.tokens.Token.{Token}
+use Rattle.pc_grammar.specs.declared.expressions.Word.{Word}
+use Rattle.pc_grammar.specs.declared.expressions.Expr.{Expr}
+use Rattle.pc_grammar.specs.declared.expressions.Expr.TheVariants.{Number}
 use Rattle.pc_parse.specs.declared.reading.Failure.{Failure}
 use Rattle.pc_parse.specs.declared.reading.Failure.TheVariants.{Broken, Memory}
 use Rattle.pc_grammar.specs.declared.marks.Pair.{Pair}

@@ -1,8 +1,8 @@
 -- One lemma for each way on which the parsers of parameters answer.
 use Rattle.std.proofs.Common.{◌≡◌, ℕ, ◌≤◌, List, [], ◌∷◌, ◌++◌, Some, length, refl, sym, ap, subst, ◌∙◌, append_assoc}
-use Rattle.pc_lex.specs.declared.tokens.Sort.TheVariants.{Name, IntWord, VoidWord, Comma, OpenParenthesis, CloseParenthesis}
-use Rattle.pc_lex.specs.declared.tokens.Token.{Token}
-use Rattle.pc_ast.specs.declared.expressions.Word.{Word}
+use Rattle.pc_grammar.specs.declared.tokens.Sort.TheVariants.{Name, IntWord, VoidWord, Comma, OpenParenthesis, CloseParenthesis}
+use Rattle.pc_grammar.specs.declared.tokens.Token.{Token}
+use Rattle.pc_grammar.specs.declared.expressions.Word.{Word}
 use Rattle.pc_parse.specs.declared.reading.Failure.{Failure}
 use Rattle.pc_parse.specs.declared.reading.Failure.TheVariants.{Broken, Memory}
 use Rattle.pc_grammar.specs.Refusing.{first}

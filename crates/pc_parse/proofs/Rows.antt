@@ -1,9 +1,9 @@
 -- Lists of expressions, and of names.
 use Rattle.std.proofs.Common.{◌≡◌, ℕ, ◌≤◌, List, [], ◌∷◌, ◌++◌, Option, Some, length, refl, sym, ap, subst, ◌∙◌}
-use Rattle.pc_lex.specs.declared.tokens.Sort.TheVariants.{Name, Comma, CloseParenthesis}
-use Rattle.pc_lex.specs.declared.tokens.Token.{Token}
-use Rattle.pc_ast.specs.declared.expressions.Word.{Word}
-use Rattle.pc_ast.specs.declared.expressions.Expr.{Expr}
+use Rattle.pc_grammar.specs.declared.tokens.Sort.TheVariants.{Name, Comma, CloseParenthesis}
+use Rattle.pc_grammar.specs.declared.tokens.Token.{Token}
+use Rattle.pc_grammar.specs.declared.expressions.Word.{Word}
+use Rattle.pc_grammar.specs.declared.expressions.Expr.{Expr}
 use Rattle.pc_parse.specs.declared.reading.Failure.{Failure}
 use Rattle.pc_grammar.specs.Signs.{hold_of, binary_in}
 use Rattle.pc_grammar.specs.Refusing.{first}

@@ -1,12 +1,12 @@
 -- One lemma for each way on which the parsers of an array's size and of inputs and outputs answer.
 use Rattle.std.proofs.Common.{◌≡◌, ℕ, ℤ, pos, List, [], ◌∷◌, ◌++◌, Some, length, refl, sym, ap, subst, ◌∙◌, append_assoc, append-nil}
 use Rattle.pt_base.specs.Operators.{word_of}
-use Rattle.pc_lex.specs.declared.tokens.Sort.TheVariants.{Number, Equals, OpenBracket, CloseBracket, Semicolon}
-use Rattle.pc_lex.specs.declared.tokens.Token.{Token}
-use Rattle.pc_ast.specs.declared.expressions.Word.{Word}
-use Rattle.pc_ast.specs.declared.programs.CellKind.{CellKind}
-use Rattle.pc_ast.specs.declared.programs.Item.{Item}
-use Rattle.pc_ast.specs.declared.programs.Item.TheVariants.{Scalar}
+use Rattle.pc_grammar.specs.declared.tokens.Sort.TheVariants.{Number, Equals, OpenBracket, CloseBracket, Semicolon}
+use Rattle.pc_grammar.specs.declared.tokens.Token.{Token}
+use Rattle.pc_grammar.specs.declared.expressions.Word.{Word}
+use Rattle.pc_grammar.specs.declared.programs.CellKind.{CellKind}
+use Rattle.pc_grammar.specs.declared.programs.Item.{Item}
+use Rattle.pc_grammar.specs.declared.programs.Item.TheVariants.{Scalar}
 use Rattle.pc_parse.specs.declared.reading.Failure.{Failure}
 use Rattle.pc_parse.specs.declared.reading.Failure.TheVariants.{Broken, Memory}
 use Rattle.pc_grammar.specs.Refusing.{first}

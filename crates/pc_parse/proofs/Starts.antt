@@ -1,8 +1,8 @@
 -- One lemma for each way on which the parsers of constants answer.
 use Rattle.std.proofs.Common.{◌≡◌, ℕ, ℤ, pos, neg_ℤ, List, [], ◌∷◌, ◌++◌, Option, Some, None, length, refl, sym, ap, subst, ◌∙◌}
 use Rattle.pt_base.specs.Operators.{word_of}
-use Rattle.pc_lex.specs.declared.tokens.Sort.TheVariants.{Number, Equals, Minus, Semicolon}
-use Rattle.pc_lex.specs.declared.tokens.Token.{Token}
+use Rattle.pc_grammar.specs.declared.tokens.Sort.TheVariants.{Number, Equals, Minus, Semicolon}
+use Rattle.pc_grammar.specs.declared.tokens.Token.{Token}
 use Rattle.pc_parse.specs.declared.reading.Failure.{Failure}
 use Rattle.pc_parse.specs.declared.reading.Failure.TheVariants.{Broken, Memory}
 use Rattle.pc_grammar.specs.Refusing.{first}

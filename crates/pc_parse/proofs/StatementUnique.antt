@@ -1,11 +1,11 @@
 -- Tokens spell one tree: a statement that is read off the front, seen from its first token.
 use Rattle.std.proofs.Common.{◌≡◌, ℕ, suc, Bool, true, false, List, [], ◌∷◌, ◌++◌, ◌⊎◌, inl, inr, ⊎_elim, Option, Some, None, refl, sym, ap, subst, ◌∙◌, append_assoc}
-use Rattle.pc_lex.specs.declared.tokens.Sort.TheVariants.{ElseWord, AbortWord, WhenWord, CloseBrace, Hash}
-use Rattle.pc_lex.specs.declared.tokens.Token.{Token}
-use Rattle.pc_ast.specs.declared.expressions.Word.{Word}
-use Rattle.pc_ast.specs.declared.expressions.Expr.{Expr}
-use Rattle.pc_ast.specs.declared.statements.Stmt.{Stmt}
-use Rattle.pc_ast.specs.declared.statements.Stmt.TheVariants.{Block, If, While, Abort}
+use Rattle.pc_grammar.specs.declared.tokens.Sort.TheVariants.{ElseWord, AbortWord, WhenWord, CloseBrace, Hash}
+use Rattle.pc_grammar.specs.declared.tokens.Token.{Token}
+use Rattle.pc_grammar.specs.declared.expressions.Word.{Word}
+use Rattle.pc_grammar.specs.declared.expressions.Expr.{Expr}
+use Rattle.pc_grammar.specs.declared.statements.Stmt.{Stmt}
+use Rattle.pc_grammar.specs.declared.statements.Stmt.TheVariants.{Block, If, While, Abort}
 use Rattle.pc_grammar.specs.declared.marks.Pair.TheVariants.{Parentheses}
 use Rattle.pc_grammar.specs.Refusing.{first}
 use Rattle.pc_grammar.specs.Expressions.{SpellsBetween}

@@ -2,10 +2,10 @@
 use Rattle.std.proofs.Common.{◌≡◌, ℕ, suc, ◌<◌, List, [], ◌∷◌, ◌++◌, ◌⊎◌, inl, inr, ⊎_elim, Some, refl, sym, ap, subst, ◌∙◌, append_assoc, arith}
 use Rattle.pt_base.specs.declared.operators.UnOp.{UnOp}
 use Rattle.pt_base.specs.declared.operators.BinOp.{BinOp}
-use Rattle.pc_lex.specs.declared.tokens.Token.{Token}
-use Rattle.pc_ast.specs.declared.expressions.Word.{Word}
-use Rattle.pc_ast.specs.declared.expressions.Expr.{Expr}
-use Rattle.pc_ast.specs.declared.expressions.Expr.TheVariants.{Number, Var, Elem, Unary}
+use Rattle.pc_grammar.specs.declared.tokens.Token.{Token}
+use Rattle.pc_grammar.specs.declared.expressions.Word.{Word}
+use Rattle.pc_grammar.specs.declared.expressions.Expr.{Expr}
+use Rattle.pc_grammar.specs.declared.expressions.Expr.TheVariants.{Number, Var, Elem, Unary}
 use Rattle.pc_grammar.specs.declared.marks.Pair.{Pair}
 use Rattle.pc_grammar.specs.declared.marks.Pair.TheVariants.{Parentheses, Brackets}
 use Rattle.pc_grammar.specs.declared.marks.Opening.{Opening}

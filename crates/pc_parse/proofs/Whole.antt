@@ -2,9 +2,9 @@
 use Rattle.std.proofs.Common.{◌≡◌, ℕ, suc, ◌+◌, ◌-◌, ◌<◌, ◌≤◌, List, [], ◌∷◌, ◌++◌, length, drop, refl, sym, ap, subst, ◌∙◌, append_assoc, append-nil, length-append, arith}
 use Rattle.pt_base.specs.declared.rules.Rule.TheVariants.{S1}
 use Rattle.pt_base.specs.declared.rules.Span.{Span}
-use Rattle.pc_lex.specs.declared.tokens.Token.{Token}
-use Rattle.pc_lex.specs.Lexing.{Lexes, whole}
-use Rattle.pc_ast.specs.declared.programs.Item.{Item}
+use Rattle.pc_grammar.specs.declared.tokens.Token.{Token}
+use Rattle.pc_grammar.specs.Lexing.{Lexes, whole}
+use Rattle.pc_grammar.specs.declared.programs.Item.{Item}
 use Rattle.pc_parse.specs.declared.reading.Failure.{Failure}
 use Rattle.pc_parse.specs.declared.reading.Failure.TheVariants.{Broken, Memory}
 use Rattle.pc_grammar.specs.Refusing.{first}

@@ -1,6 +1,6 @@
 -- What each function answers that reads the word that a cell starts with.
 use Rattle.std.specs.Prelude.{ℕ, ℤ, List}
-use Rattle.pc_lex.specs.declared.tokens.Token.{Token}
+use Rattle.pc_grammar.specs.declared.tokens.Token.{Token}
 use Rattle.pc_parse.specs.Reading.{Takes, Fails, Always}
 use Rattle.pc_grammar.specs.Constants.{SpellsEnded, SpellsStart}
 

@@ -1,9 +1,9 @@
 -- What each function answers that reads parameters, locals, or the frame of a function.
 use Rattle.std.specs.Prelude.{◌≡◌, ℕ, List, Option, Some}
-use Rattle.pc_lex.specs.declared.tokens.Sort.TheVariants.{IntWord}
-use Rattle.pc_lex.specs.declared.tokens.Token.{Token}
-use Rattle.pc_ast.specs.declared.expressions.Word.{Word}
-use Rattle.pc_ast.specs.declared.expressions.Expr.{Expr}
+use Rattle.pc_grammar.specs.declared.tokens.Sort.TheVariants.{IntWord}
+use Rattle.pc_grammar.specs.declared.tokens.Token.{Token}
+use Rattle.pc_grammar.specs.declared.expressions.Word.{Word}
+use Rattle.pc_grammar.specs.declared.expressions.Expr.{Expr}
 use Rattle.pc_grammar.specs.Refusing.{first}
 use Rattle.pc_parse.specs.Reading.{Takes, Fails, Always}
 use Rattle.pc_parse.specs.Lists.{AfterName}

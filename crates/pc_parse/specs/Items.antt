@@ -1,11 +1,11 @@
 -- What an item begins with, and what each function answers that reads an item.
 use Rattle.std.specs.Prelude.{ℕ, List}
-use Rattle.pc_lex.specs.declared.tokens.Sort.{Sort}
-use Rattle.pc_lex.specs.declared.tokens.Sort.TheVariants.{IntWord, VoidWord, ReactiveInputWord, ReactiveOutputWord}
-use Rattle.pc_lex.specs.declared.tokens.Token.{Token}
-use Rattle.pc_ast.specs.declared.expressions.Word.{Word}
-use Rattle.pc_ast.specs.declared.programs.CellKind.{CellKind}
-use Rattle.pc_ast.specs.declared.programs.Item.{Item}
+use Rattle.pc_grammar.specs.declared.tokens.Sort.{Sort}
+use Rattle.pc_grammar.specs.declared.tokens.Sort.TheVariants.{IntWord, VoidWord, ReactiveInputWord, ReactiveOutputWord}
+use Rattle.pc_grammar.specs.declared.tokens.Token.{Token}
+use Rattle.pc_grammar.specs.declared.expressions.Word.{Word}
+use Rattle.pc_grammar.specs.declared.programs.CellKind.{CellKind}
+use Rattle.pc_grammar.specs.declared.programs.Item.{Item}
 use Rattle.pc_parse.specs.Reading.{Takes, Fails, Always}
 use Rattle.pc_parse.specs.declared.items.ItemOpening.{ItemOpening}
 use Rattle.pc_parse.specs.declared.items.ItemOpening.TheVariants.{Input as InputOpening, Output as OutputOpening, Int as IntOpening, Void as VoidOpening, Nothing as NothingOpening}

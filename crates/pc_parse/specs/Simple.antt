@@ -1,10 +1,10 @@
 -- What a statement begins with, and what each function answers that reads a statement that holds no statement.
 use Rattle.std.specs.Prelude.{ℕ, List}
-use Rattle.pc_lex.specs.declared.tokens.Sort.{Sort}
-use Rattle.pc_lex.specs.declared.tokens.Sort.TheVariants.{Name, Semicolon, EotWord, ParWord, OpenBrace, IfWord, WhileWord, AbortWord, WeakWord}
-use Rattle.pc_lex.specs.declared.tokens.Token.{Token}
-use Rattle.pc_ast.specs.declared.expressions.Word.{Word}
-use Rattle.pc_ast.specs.declared.statements.Stmt.{Stmt}
+use Rattle.pc_grammar.specs.declared.tokens.Sort.{Sort}
+use Rattle.pc_grammar.specs.declared.tokens.Sort.TheVariants.{Name, Semicolon, EotWord, ParWord, OpenBrace, IfWord, WhileWord, AbortWord, WeakWord}
+use Rattle.pc_grammar.specs.declared.tokens.Token.{Token}
+use Rattle.pc_grammar.specs.declared.expressions.Word.{Word}
+use Rattle.pc_grammar.specs.declared.statements.Stmt.{Stmt}
 use Rattle.pc_parse.specs.Reading.{Takes, Fails, Always}
 use Rattle.pc_parse.specs.declared.simple.Beginning.{Beginning}
 use Rattle.pc_parse.specs.declared.simple.Beginning.TheVariants.{Skip as SkipBeginning, Name as NameBeginning, Eot as EotBeginning, Par as ParBeginning, Block as BlockBeginning, If as IfBeginning, While as WhileBeginning, Abort as AbortBeginning, Weak as WeakBeginning, Nothing as NothingBeginning}

@@ -6,8 +6,7 @@ ghost use Rattle.pc_parse.specs.Constants.{EndedTakes, EndedFails, StartTakes, S
 
 use crate::reading::{Failure, after, split};
 use crate::settings::number_at;
-use pc_grammar::Mark;
-use pc_lex::{Sort, Token};
+use pc_grammar::{Mark, Sort, Token};
 
 /// The tokens after a `-`, where one comes next.
 fn after_minus(tokens: &[Token]) -> Option<&[Token]>

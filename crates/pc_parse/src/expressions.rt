@@ -5,11 +5,10 @@ ghost use Rattle.pc_grammar.specs.Expressions.{grown, IsExpression, OneTree};
 ghost use Rattle.pc_parse.specs.Expressions.{NoneNext, ComesNext, OperandTakes, OperandFails, BetweenTakes, BetweenFails, LevelTakes, LevelFails};
 
 use crate::reading::{Failure, after, comes, split, word};
-use pc_ast::{Expr, Word};
 use pc_grammar::{
-    LEVELS, Mark, Opening, Pair, binary_operator, closes, level_number, opens, operand_opening,
+    Expr, LEVELS, Mark, Opening, Pair, Sort, Token, Word, binary_operator, closes, level_number,
+    opens, operand_opening,
 };
-use pc_lex::{Sort, Token};
 use pt_base::{BinOp, MOST_EXPRESSION_LEVELS, Text};
 use sqlite_items::{Boxed, Items};
 use std::alloc::{AllocError, Global};

@@ -8,9 +8,7 @@ ghost use Rattle.pc_parse.specs.Frames.{ParameterTakes, ParameterFails, Paramete
 use crate::bodies::statements;
 use crate::expressions::between;
 use crate::reading::{Failure, after, comes, split, word};
-use pc_ast::{Expr, Stmt, Word};
-use pc_grammar::{Frame, Mark, Pair};
-use pc_lex::{Sort, Token};
+use pc_grammar::{Expr, Frame, Mark, Pair, Sort, Stmt, Token, Word};
 use pt_base::{MOST_EXPRESSION_LEVELS, MOST_STATEMENT_LEVELS, Text};
 use sqlite_items::Items;
 use std::alloc::Global;

@@ -8,9 +8,7 @@ use crate::expressions::between;
 use crate::frames::{function_frame, int_name};
 use crate::reading::{Failure, after, comes, split, word};
 use crate::settings::number_at;
-use pc_ast::{CellKind, Item, Word};
-use pc_grammar::{Mark, Pair};
-use pc_lex::{Sort, Token};
+use pc_grammar::{CellKind, Item, Mark, Pair, Sort, Token, Word};
 use pt_base::{MOST_EXPRESSION_LEVELS, Text};
 use std::alloc::Global;
 

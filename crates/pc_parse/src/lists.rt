@@ -6,9 +6,7 @@ ghost use Rattle.pc_parse.specs.Lists.{ListTakes, ListFails, ListedTakes, Listed
 
 use crate::expressions::expression;
 use crate::reading::{Failure, after, split, word};
-use pc_ast::{Expr, Word};
-use pc_grammar::Mark;
-use pc_lex::{Sort, Token};
+use pc_grammar::{Expr, Mark, Sort, Token, Word};
 use pt_base::Text;
 use sqlite_items::Items;
 use std::alloc::Global;

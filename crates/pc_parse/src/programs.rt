@@ -1,14 +1,12 @@
 ghost use Rattle.std.specs.Prelude.{◌≡◌, ◌-◌, ◌≤◌, length, drop, IfOk, IfErr};
-ghost use Rattle.pc_lex.specs.Lexing.{Lexes, whole};
+ghost use Rattle.pc_grammar.specs.Lexing.{Lexes, whole};
 ghost use Rattle.pc_parse.specs.Reading.{Refuses};
 ghost use Rattle.pc_grammar.specs.Programs.{IsProgram, span_at, RefusedIn, OneProgram};
 ghost use Rattle.pc_parse.specs.Programs.{ProgramFails};
 
 use crate::items::item;
 use crate::reading::{Failure, split};
-use pc_ast::Item;
-use pc_grammar::Program;
-use pc_lex::{Token, Tokens};
+use pc_grammar::{Item, Program, Token, Tokens};
 use pt_base::{Refusal, Rule, Span, Text};
 use sqlite_items::Items;
 use std::alloc::Global;

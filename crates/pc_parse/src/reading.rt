@@ -4,9 +4,7 @@ ghost use Rattle.pc_grammar.specs.Refusing.{first};
 ghost use Rattle.pc_parse.specs.Reading.{Comes};
 ghost use Rattle.pc_grammar.specs.Expressions.{word_at};
 
-use pc_ast::Word;
-use pc_grammar::{Mark, is_mark};
-use pc_lex::{Sort, Token};
+use pc_grammar::{Mark, Sort, Token, Word, is_mark};
 use pt_base::{Memory, Span, Text};
 use std::alloc::{AllocError, Global};
 

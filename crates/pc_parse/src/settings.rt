@@ -5,9 +5,7 @@ ghost use Rattle.pc_parse.specs.Settings.{CallComes, NoCall, NumberComes, NoNumb
 use crate::expressions::between;
 use crate::lists::arguments;
 use crate::reading::{Failure, after, comes, split, word};
-use pc_ast::{Expr, Goal, Stmt, Word};
-use pc_grammar::{Mark, Pair};
-use pc_lex::{Sort, Token};
+use pc_grammar::{Expr, Goal, Mark, Pair, Sort, Stmt, Token, Word};
 use pt_base::{MOST_EXPRESSION_LEVELS, Text};
 use std::alloc::Global;
 

@@ -6,9 +6,7 @@ use crate::expressions::between;
 use crate::lists::{arguments, names};
 use crate::reading::{Failure, after, comes, split, word};
 use crate::settings::setting;
-use pc_ast::{Goal, Stmt, Word};
-use pc_grammar::{Mark, Pair};
-use pc_lex::{Sort, Token};
+use pc_grammar::{Goal, Mark, Pair, Sort, Stmt, Token, Word};
 use pt_base::{MOST_EXPRESSION_LEVELS, Text};
 use std::alloc::Global;
 

@@ -1,9 +1,9 @@
 -- Tokens that look like the canonical ones of lists, settings and simple statements spell the same but for places.
 use Rattle.std.proofs.Common.{◌≡◌, ℕ, List, [], ◌∷◌, ◌++◌, map, slice_range, refl, sym, ap, subst, ◌∙◌}
-use Rattle.pc_lex.specs.declared.tokens.Sort.TheVariants.{Name, OpenParenthesis, CloseParenthesis, Comma}
-use Rattle.pc_lex.specs.declared.tokens.Token.{Token}
-use Rattle.pc_ast.specs.declared.expressions.Word.{Word}
-use Rattle.pc_ast.specs.declared.expressions.Expr.{Expr}
+use Rattle.pc_grammar.specs.declared.tokens.Sort.TheVariants.{Name, OpenParenthesis, CloseParenthesis, Comma}
+use Rattle.pc_grammar.specs.declared.tokens.Token.{Token}
+use Rattle.pc_grammar.specs.declared.expressions.Word.{Word}
+use Rattle.pc_grammar.specs.declared.expressions.Expr.{Expr}
 use Rattle.pc_grammar.specs.declared.marks.Pair.{Pair}
 use Rattle.pc_grammar.specs.Signs.{opens_of, closes_of}
 use Rattle.pc_grammar.specs.Expressions.{word_at, SpellsBetween, between, IsExpression}

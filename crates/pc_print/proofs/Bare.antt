@@ -2,10 +2,10 @@
 use Rattle.std.proofs.Common.{◌≡◌, ℕ, List, map, sym, ap, ◌∙◌}
 use Rattle.pt_base.specs.declared.operators.UnOp.{UnOp}
 use Rattle.pt_base.specs.declared.operators.BinOp.{BinOp}
-use Rattle.pc_ast.specs.declared.expressions.Word.{Word}
-use Rattle.pc_ast.specs.declared.expressions.Expr.{Expr, fold-roll-Expr}
-use Rattle.pc_ast.specs.declared.expressions.Expr.TheVariants.{Var, Elem, Unary, Chain, rolls-Var, rolls-Elem, rolls-Unary, rolls-Chain}
-use Rattle.pc_ast.specs.declared.expressions.Expr.TheOpen.{Var as OpenVar, Elem as OpenElem, Unary as OpenUnary, Chain as OpenChain}
+use Rattle.pc_grammar.specs.declared.expressions.Word.{Word}
+use Rattle.pc_grammar.specs.declared.expressions.Expr.{Expr, fold-roll-Expr}
+use Rattle.pc_grammar.specs.declared.expressions.Expr.TheVariants.{Var, Elem, Unary, Chain, rolls-Var, rolls-Elem, rolls-Unary, rolls-Chain}
+use Rattle.pc_grammar.specs.declared.expressions.Expr.TheOpen.{Var as OpenVar, Elem as OpenElem, Unary as OpenUnary, Chain as OpenChain}
 use Rattle.pc_print.specs.Tokens.{bare_of, bare}
 
 pub bare-Var : (w : Word) → bare (Var w) ≡ Var w.text

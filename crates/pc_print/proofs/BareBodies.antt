@@ -1,12 +1,12 @@
 -- The equations of statements without places.
 use Rattle.std.proofs.Common.{◌≡◌, ℕ, Bool, List, Option, Some, None, map, sym, ap, ◌∙◌}
 use Rattle.pt_base.specs.declared.rules.Span.{Span}
-use Rattle.pc_ast.specs.declared.expressions.Word.{Word}
-use Rattle.pc_ast.specs.declared.expressions.Expr.{Expr}
-use Rattle.pc_ast.specs.declared.expressions.Goal.{Goal}
-use Rattle.pc_ast.specs.declared.statements.Stmt.{Stmt, fold-roll-Stmt}
-use Rattle.pc_ast.specs.declared.statements.Stmt.TheVariants.{Assign, Call, Block, If, While, Eot, Par, Abort, rolls-Assign, rolls-Call, rolls-Block, rolls-If, rolls-While, rolls-Eot, rolls-Par, rolls-Abort}
-use Rattle.pc_ast.specs.declared.statements.Stmt.TheOpen.{Assign as OpenAssign, Call as OpenCall, Block as OpenBlock, If as OpenIf, While as OpenWhile, Eot as OpenEot, Par as OpenPar, Abort as OpenAbort}
+use Rattle.pc_grammar.specs.declared.expressions.Word.{Word}
+use Rattle.pc_grammar.specs.declared.expressions.Expr.{Expr}
+use Rattle.pc_grammar.specs.declared.expressions.Goal.{Goal}
+use Rattle.pc_grammar.specs.declared.statements.Stmt.{Stmt, fold-roll-Stmt}
+use Rattle.pc_grammar.specs.declared.statements.Stmt.TheVariants.{Assign, Call, Block, If, While, Eot, Par, Abort, rolls-Assign, rolls-Call, rolls-Block, rolls-If, rolls-While, rolls-Eot, rolls-Par, rolls-Abort}
+use Rattle.pc_grammar.specs.declared.statements.Stmt.TheOpen.{Assign as OpenAssign, Call as OpenCall, Block as OpenBlock, If as OpenIf, While as OpenWhile, Eot as OpenEot, Par as OpenPar, Abort as OpenAbort}
 use Rattle.pc_print.specs.Tokens.{nowhere, bare}
 use Rattle.pc_print.specs.Same.{bare_goal, bare_statement_of, bare_statement, bare_statements}
 

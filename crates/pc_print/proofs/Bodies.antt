@@ -1,11 +1,11 @@
 -- Tokens that look like the canonical ones of statements spell the same ones but for places.
 use Rattle.std.proofs.Common.{◌≡◌, ℕ, suc, ◌+◌, Bool, true, false, List, [], ◌∷◌, ◌++◌, Option, Some, None, refl, sym, ap, subst, ◌∙◌, append-nil}
-use Rattle.pc_lex.specs.declared.tokens.Sort.TheVariants.{Number as NumberSort, OpenParenthesis, CloseParenthesis, Semicolon, Hash, IfWord, ElseWord, WhileWord, AbortWord, WeakWord, WhenWord, PreWord, OpenBrace, CloseBrace}
-use Rattle.pc_lex.specs.declared.tokens.Token.{Token}
-use Rattle.pc_ast.specs.declared.expressions.Word.{Word}
-use Rattle.pc_ast.specs.declared.expressions.Expr.{Expr}
-use Rattle.pc_ast.specs.declared.statements.Stmt.{Stmt}
-use Rattle.pc_ast.specs.declared.statements.Stmt.TheVariants.{Block, If, While, Abort}
+use Rattle.pc_grammar.specs.declared.tokens.Sort.TheVariants.{Number as NumberSort, OpenParenthesis, CloseParenthesis, Semicolon, Hash, IfWord, ElseWord, WhileWord, AbortWord, WeakWord, WhenWord, PreWord, OpenBrace, CloseBrace}
+use Rattle.pc_grammar.specs.declared.tokens.Token.{Token}
+use Rattle.pc_grammar.specs.declared.expressions.Word.{Word}
+use Rattle.pc_grammar.specs.declared.expressions.Expr.{Expr}
+use Rattle.pc_grammar.specs.declared.statements.Stmt.{Stmt}
+use Rattle.pc_grammar.specs.declared.statements.Stmt.TheVariants.{Block, If, While, Abort}
 use Rattle.pc_grammar.specs.Settings.{SpellsLoop, free, counted, SpellsTest, test as tested}
 use Rattle.pc_grammar.specs.Statements.{SpellsStmt, simple, block, if_open, if_else, while, abort, weak_abort, SpellsAborted, aborted, SpellsParts, none as no_parts, more as more_parts}
 use Rattle.pc_print.specs.Parts.{mark, blank}

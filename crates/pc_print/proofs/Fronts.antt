@@ -9,16 +9,16 @@ use Rattle.std.specs.List.{list_all, starts_with}
 use Rattle.std.proofs.lemmas.List.Folds.{list_all-append}
 use Rattle.std.proofs.Math.Nat.{pow-zero, pow-suc, add-mul, mul_assoc}
 use Rattle.pt_base.specs.declared.operators.BinOp.{BinOp}
-use Rattle.pc_lex.specs.declared.tokens.Sort.{Sort}
-use Rattle.pc_lex.specs.declared.tokens.Sort.TheVariants.{Name, Number, OpenParenthesis, CloseParenthesis, OpenBracket, CloseBracket, Minus, Bang, Tilde}
-use Rattle.pc_lex.specs.declared.fronts.Front.{Front}
-use Rattle.pc_lex.specs.declared.fronts.Front.TheVariants.{Blank, Piece}
-use Rattle.pc_lex.specs.Spelling.{spelling_of, signs}
+use Rattle.pc_grammar.specs.declared.tokens.Sort.{Sort}
+use Rattle.pc_grammar.specs.declared.tokens.Sort.TheVariants.{Name, Number, OpenParenthesis, CloseParenthesis, OpenBracket, CloseBracket, Minus, Bang, Tilde}
+use Rattle.pc_grammar.specs.declared.fronts.Front.{Front}
+use Rattle.pc_grammar.specs.declared.fronts.Front.TheVariants.{Blank, Piece}
+use Rattle.pc_grammar.specs.Spelling.{spelling_of, signs}
 use Rattle.pt_base.specs.Bytes.{is_digit}
-use Rattle.pc_lex.specs.Numbers.{is_word, digit_value, value_of, has_no_leading_zero, decimal_of, number_of}
-use Rattle.pc_lex.specs.Lexing.{is_white, before, run_of, begins, run_front, reads_name, is_name, sign_of, front_of}
-use Rattle.pc_lex.proofs.Found.{both_first, both_second}
-use Rattle.pt_lines.proofs.NumberLaws.{leads}
+use Rattle.pc_grammar.specs.Numbers.{is_word, digit_value, value_of, has_no_leading_zero, decimal_of, number_of}
+use Rattle.pc_grammar.specs.Lexing.{is_white, before, run_of, begins, run_front, reads_name, is_name, sign_of, front_of}
+use Rattle.pc_grammar.proofs.Found.{both_first, both_second}
+use Rattle.pt_base.proofs.NumberLaws.{leads}
 use Rattle.pc_print.specs.Canonical.{binary_sign}
 
 -- no letter, digit or `_` comes next

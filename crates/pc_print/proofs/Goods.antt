@@ -4,17 +4,17 @@ use Rattle.std.proofs.lemmas.Bool.{ltb-true}
 use Rattle.std.specs.List.{find, list_all, starts_with}
 use lib.Pointwise.{pointwise}
 use Rattle.pt_base.specs.declared.rules.Rule.TheVariants.{L2}
-use Rattle.pc_lex.specs.declared.tokens.Sort.{Sort}
-use Rattle.pc_lex.specs.declared.tokens.Sort.TheVariants.{Name, Number}
-use Rattle.pc_lex.specs.declared.tokens.Token.{Token}
-use Rattle.pc_lex.specs.declared.fronts.Front.{Front}
-use Rattle.pc_lex.specs.declared.fronts.Front.TheVariants.{Blank, Piece, Fault}
-use Rattle.pc_lex.specs.Spelling.{spelling_of, keywords, signs}
+use Rattle.pc_grammar.specs.declared.tokens.Sort.{Sort}
+use Rattle.pc_grammar.specs.declared.tokens.Sort.TheVariants.{Name, Number}
+use Rattle.pc_grammar.specs.declared.tokens.Token.{Token}
+use Rattle.pc_grammar.specs.declared.fronts.Front.{Front}
+use Rattle.pc_grammar.specs.declared.fronts.Front.TheVariants.{Blank, Piece, Fault}
+use Rattle.pc_grammar.specs.Spelling.{spelling_of, keywords, signs}
 use Rattle.pt_base.specs.Bytes.{is_digit}
-use Rattle.pc_lex.specs.Numbers.{is_word, number_of}
-use Rattle.pc_lex.specs.Lexing.{is_white, run_of, begins, closed_in, number_front, keyword_or_name, word_sort, run_front, sign_front, sign_of, comment_front, front_of, is_name, TextOf, AreSlices, CutEnd, Lexes, done, blank, piece, fault}
-use Rattle.pc_lex.proofs.Found.{found_among}
-use Rattle.pc_lex.proofs.Cuts.{known}
+use Rattle.pc_grammar.specs.Numbers.{is_word, number_of}
+use Rattle.pc_grammar.specs.Lexing.{is_white, run_of, begins, closed_in, number_front, keyword_or_name, word_sort, run_front, sign_front, sign_of, comment_front, front_of, is_name, TextOf, AreSlices, CutEnd, Lexes, done, blank, piece, fault}
+use Rattle.pc_grammar.proofs.Found.{found_among}
+use Rattle.pc_grammar.proofs.Cuts.{known}
 use Rattle.pc_print.proofs.Sound.{Goods}
 
 -- what begins a text isn't a number of more than 32 bits

@@ -1,14 +1,14 @@
 -- The lines of items are read whole, whatever follows them.
 use Rattle.std.proofs.Common.{ℕ, suc, ◌<◌, ℤ, pos, negsuc, Bool, true, false, List, [], ◌∷◌, ◌++◌, Option, Some, None, w32, FitsSigned, neg_ℤ, rules, refl, arith}
 use Rattle.std.proofs.lemmas.Int.{SFits-int_wrap}
-use Rattle.pc_lex.specs.declared.tokens.Sort.TheVariants.{CloseParenthesis, OpenBracket, CloseBracket, Semicolon, ReturnWord, OpenBrace, CloseBrace}
-use Rattle.pc_lex.specs.declared.tokens.Token.{Token}
-use Rattle.pc_ast.specs.declared.expressions.Word.{Word}
-use Rattle.pc_ast.specs.declared.expressions.Expr.{Expr}
-use Rattle.pc_ast.specs.declared.programs.CellKind.{CellKind}
-use Rattle.pc_ast.specs.declared.programs.CellKind.TheVariants.{Input, Output, Plain}
-use Rattle.pc_ast.specs.declared.programs.Item.{Item}
-use Rattle.pc_ast.specs.declared.programs.Item.TheVariants.{Scalar, Array, Function}
+use Rattle.pc_grammar.specs.declared.tokens.Sort.TheVariants.{CloseParenthesis, OpenBracket, CloseBracket, Semicolon, ReturnWord, OpenBrace, CloseBrace}
+use Rattle.pc_grammar.specs.declared.tokens.Token.{Token}
+use Rattle.pc_grammar.specs.declared.expressions.Word.{Word}
+use Rattle.pc_grammar.specs.declared.expressions.Expr.{Expr}
+use Rattle.pc_grammar.specs.declared.programs.CellKind.{CellKind}
+use Rattle.pc_grammar.specs.declared.programs.CellKind.TheVariants.{Input, Output, Plain}
+use Rattle.pc_grammar.specs.declared.programs.Item.{Item}
+use Rattle.pc_grammar.specs.declared.programs.Item.TheVariants.{Scalar, Array, Function}
 use Rattle.pc_grammar.specs.Expressions.{word_at}
 use Rattle.pc_grammar.specs.declared.frames.Frame.{Frame}
 use Rattle.pc_grammar.specs.Constants.{SpellsStart, positive, negative}

@@ -2,14 +2,14 @@
 use Rattle.std.proofs.Common.{◌≡◌, ℕ, suc, ℤ, pos, negsuc, Bool, true, false, List, [], ◌∷◌, ◌++◌, Option, Some, None, map, w32, FitsSigned, rules, refl, sym, ap, subst, ◌∙◌, append_assoc}
 use Rattle.std.specs.Option.{option_map}
 use Rattle.std.proofs.lemmas.Int.{int_wrap_fits}
-use Rattle.pc_lex.specs.declared.tokens.Sort.TheVariants.{Number as NumberSort, OpenParenthesis, CloseParenthesis, OpenBracket, CloseBracket, Semicolon, Equals, Minus, IntWord, VoidWord, ReturnWord, ReactiveInputWord, ReactiveOutputWord, OpenBrace, CloseBrace}
-use Rattle.pc_lex.specs.declared.tokens.Token.{Token}
-use Rattle.pc_ast.specs.declared.expressions.Word.{Word}
-use Rattle.pc_ast.specs.declared.expressions.Expr.{Expr}
-use Rattle.pc_ast.specs.declared.programs.CellKind.{CellKind}
-use Rattle.pc_ast.specs.declared.programs.CellKind.TheVariants.{Input, Output, Plain}
-use Rattle.pc_ast.specs.declared.programs.Item.{Item}
-use Rattle.pc_ast.specs.declared.programs.Item.TheVariants.{Scalar, Array, Function}
+use Rattle.pc_grammar.specs.declared.tokens.Sort.TheVariants.{Number as NumberSort, OpenParenthesis, CloseParenthesis, OpenBracket, CloseBracket, Semicolon, Equals, Minus, IntWord, VoidWord, ReturnWord, ReactiveInputWord, ReactiveOutputWord, OpenBrace, CloseBrace}
+use Rattle.pc_grammar.specs.declared.tokens.Token.{Token}
+use Rattle.pc_grammar.specs.declared.expressions.Word.{Word}
+use Rattle.pc_grammar.specs.declared.expressions.Expr.{Expr}
+use Rattle.pc_grammar.specs.declared.programs.CellKind.{CellKind}
+use Rattle.pc_grammar.specs.declared.programs.CellKind.TheVariants.{Input, Output, Plain}
+use Rattle.pc_grammar.specs.declared.programs.Item.{Item}
+use Rattle.pc_grammar.specs.declared.programs.Item.TheVariants.{Scalar, Array, Function}
 use Rattle.pc_grammar.specs.Expressions.{word_at}
 use Rattle.pc_grammar.specs.declared.frames.Frame.{Frame}
 use Rattle.pc_grammar.specs.Constants.{ended, SpellsStart, positive, negative}

@@ -1,15 +1,15 @@
 -- The lines of statements are read whole, whatever follows them.
 use Rattle.std.proofs.Common.{◌≡◌, ℕ, ◌+◌, ◌<◌, Bool, true, false, List, [], ◌∷◌, ◌++◌, Option, Some, None, refl, sym, subst}
-use Rattle.pc_lex.specs.declared.tokens.Sort.{Sort}
-use Rattle.pc_lex.specs.declared.tokens.Sort.TheVariants.{OpenParenthesis, CloseParenthesis, OpenBracket, CloseBracket, Semicolon, Comma, IfWord, ElseWord, WhileWord, ParWord, EotWord, AbortWord, WeakWord, WhenWord, PreWord, OpenBrace, CloseBrace}
-use Rattle.pc_lex.specs.declared.tokens.Token.{Token}
-use Rattle.pc_lex.specs.Spelling.{spelling_of}
-use Rattle.pc_ast.specs.declared.expressions.Word.{Word}
-use Rattle.pc_ast.specs.declared.expressions.Expr.{Expr}
-use Rattle.pc_ast.specs.declared.expressions.Goal.{Goal}
-use Rattle.pc_ast.specs.declared.expressions.Goal.TheVariants.{Nothing, Var, Elem}
-use Rattle.pc_ast.specs.declared.statements.Stmt.{Stmt}
-use Rattle.pc_ast.specs.declared.statements.Stmt.TheVariants.{Skip, Assign, Call, Block, If, While, Eot, Par, Abort}
+use Rattle.pc_grammar.specs.declared.tokens.Sort.{Sort}
+use Rattle.pc_grammar.specs.declared.tokens.Sort.TheVariants.{OpenParenthesis, CloseParenthesis, OpenBracket, CloseBracket, Semicolon, Comma, IfWord, ElseWord, WhileWord, ParWord, EotWord, AbortWord, WeakWord, WhenWord, PreWord, OpenBrace, CloseBrace}
+use Rattle.pc_grammar.specs.declared.tokens.Token.{Token}
+use Rattle.pc_grammar.specs.Spelling.{spelling_of}
+use Rattle.pc_grammar.specs.declared.expressions.Word.{Word}
+use Rattle.pc_grammar.specs.declared.expressions.Expr.{Expr}
+use Rattle.pc_grammar.specs.declared.expressions.Goal.{Goal}
+use Rattle.pc_grammar.specs.declared.expressions.Goal.TheVariants.{Nothing, Var, Elem}
+use Rattle.pc_grammar.specs.declared.statements.Stmt.{Stmt}
+use Rattle.pc_grammar.specs.declared.statements.Stmt.TheVariants.{Skip, Assign, Call, Block, If, While, Eot, Par, Abort}
 use Rattle.pc_grammar.specs.Expressions.{word_at, IsExpression}
 use Rattle.pc_grammar.specs.Lists.{SpellsMore, none, more, SpellsList, list, SpellsListed, listed, SpellsArguments, no_arguments, some_arguments, SpellsName, name}
 use Rattle.pc_grammar.specs.Settings.{SpellsSetting, value, call, SpellsLoop, free, counted, SpellsTest, test as tested}

@@ -1,13 +1,13 @@
 -- Tokens that look like the canonical ones of a simple statement spell the same one but for places.
 use Rattle.std.proofs.Common.{◌≡◌, ℕ, List, [], ◌∷◌, ◌++◌, map, refl, sym, ap, ◌∙◌, append_assoc, append-nil}
-use Rattle.pc_lex.specs.declared.tokens.Sort.TheVariants.{OpenBracket, CloseBracket, Semicolon, Equals, EotWord, ParWord}
-use Rattle.pc_lex.specs.declared.tokens.Token.{Token}
-use Rattle.pc_ast.specs.declared.expressions.Word.{Word}
-use Rattle.pc_ast.specs.declared.expressions.Expr.{Expr}
-use Rattle.pc_ast.specs.declared.expressions.Goal.{Goal}
-use Rattle.pc_ast.specs.declared.expressions.Goal.TheVariants.{Nothing, Var, Elem}
-use Rattle.pc_ast.specs.declared.statements.Stmt.{Stmt}
-use Rattle.pc_ast.specs.declared.statements.Stmt.TheVariants.{Skip, Assign, Call, Eot, Par}
+use Rattle.pc_grammar.specs.declared.tokens.Sort.TheVariants.{OpenBracket, CloseBracket, Semicolon, Equals, EotWord, ParWord}
+use Rattle.pc_grammar.specs.declared.tokens.Token.{Token}
+use Rattle.pc_grammar.specs.declared.expressions.Word.{Word}
+use Rattle.pc_grammar.specs.declared.expressions.Expr.{Expr}
+use Rattle.pc_grammar.specs.declared.expressions.Goal.{Goal}
+use Rattle.pc_grammar.specs.declared.expressions.Goal.TheVariants.{Nothing, Var, Elem}
+use Rattle.pc_grammar.specs.declared.statements.Stmt.{Stmt}
+use Rattle.pc_grammar.specs.declared.statements.Stmt.TheVariants.{Skip, Assign, Call, Eot, Par}
 use Rattle.pc_grammar.specs.Expressions.{word_at}
 use Rattle.pc_grammar.specs.Lists.{SpellsName}
 use Rattle.pc_grammar.specs.Settings.{SpellsSetting, value, call}

@@ -6,16 +6,16 @@ use Rattle.std.specs.List.{list_all}
 use Rattle.pt_base.specs.declared.operators.UnOp.{UnOp}
 use Rattle.pt_base.specs.declared.operators.UnOp.TheVariants.{Neg, Not, Flip}
 use Rattle.pt_base.specs.declared.operators.BinOp.{BinOp}
-use Rattle.pc_lex.specs.declared.tokens.Sort.TheVariants.{Name, Number as NumberSort, OpenParenthesis, CloseParenthesis, OpenBracket, CloseBracket}
-use Rattle.pc_lex.specs.declared.tokens.Token.{Token}
-use Rattle.pc_lex.specs.Spelling.{spelling_of}
-use Rattle.pc_lex.specs.Numbers.{is_word}
-use Rattle.pc_lex.specs.Lexing.{begins, run_front, reads_name, is_name}
-use Rattle.pc_lex.proofs.Found.{both_first}
-use Rattle.pt_lines.proofs.NumberLaws.{leads}
-use Rattle.pc_ast.specs.declared.expressions.Word.{Word}
-use Rattle.pc_ast.specs.declared.expressions.Expr.{Expr}
-use Rattle.pc_ast.specs.declared.expressions.Expr.TheVariants.{Number, Var, Elem, Unary, Chain}
+use Rattle.pc_grammar.specs.declared.tokens.Sort.TheVariants.{Name, Number as NumberSort, OpenParenthesis, CloseParenthesis, OpenBracket, CloseBracket}
+use Rattle.pc_grammar.specs.declared.tokens.Token.{Token}
+use Rattle.pc_grammar.specs.Spelling.{spelling_of}
+use Rattle.pc_grammar.specs.Numbers.{is_word}
+use Rattle.pc_grammar.specs.Lexing.{begins, run_front, reads_name, is_name}
+use Rattle.pc_grammar.proofs.Found.{both_first}
+use Rattle.pt_base.proofs.NumberLaws.{leads}
+use Rattle.pc_grammar.specs.declared.expressions.Word.{Word}
+use Rattle.pc_grammar.specs.declared.expressions.Expr.{Expr}
+use Rattle.pc_grammar.specs.declared.expressions.Expr.TheVariants.{Number, Var, Elem, Unary, Chain}
 use Rattle.pc_grammar.specs.declared.marks.Pair.{Pair}
 use Rattle.pc_grammar.specs.Expressions.{word_at, grown, SpellsOperand, number, name, element, unary, inside, SpellsBetween, between, SpellsLevel, operand, chain, SpellsRest, none, more}
 use Rattle.pc_print.specs.Parts.{Part, mark, word, literal, blank, text}

@@ -2,13 +2,13 @@
 use Rattle.std.proofs.Common.{◌≡◌, ℕ, zero, suc, ◌+◌, ◌-◌, ◌<◌, true, List, [], ◌∷◌, ◌++◌, map, length, take, drop, slice_range, refl, sym, ap, subst, ◌∙◌, append_assoc, append-nil, length-append, arith}
 use Rattle.std.proofs.Math.Seq.{take-append_seam}
 use Rattle.std.specs.Fmt.{decimal}
-use Rattle.pc_lex.specs.declared.tokens.Sort.{Sort}
-use Rattle.pc_lex.specs.declared.tokens.Sort.TheVariants.{Name, Number}
-use Rattle.pc_lex.specs.declared.tokens.Token.{Token}
-use Rattle.pc_lex.specs.Spelling.{spelling_of}
-use Rattle.pc_lex.specs.Lexing.{is_white, CutEnd, whole, Lexes, done, blank as blank_cut, piece as piece_cut}
-use Rattle.pc_lex.proofs.Cuts.{token_at}
-use Rattle.pc_ast.specs.declared.expressions.Word.{Word}
+use Rattle.pc_grammar.specs.declared.tokens.Sort.{Sort}
+use Rattle.pc_grammar.specs.declared.tokens.Sort.TheVariants.{Name, Number}
+use Rattle.pc_grammar.specs.declared.tokens.Token.{Token}
+use Rattle.pc_grammar.specs.Spelling.{spelling_of}
+use Rattle.pc_grammar.specs.Lexing.{is_white, CutEnd, whole, Lexes, done, blank as blank_cut, piece as piece_cut}
+use Rattle.pc_grammar.proofs.Cuts.{token_at}
+use Rattle.pc_grammar.specs.declared.expressions.Word.{Word}
 use Rattle.pc_print.specs.Parts.{Part, mark, word, literal, blank, margin, line_end, blanks, look, text}
 use Rattle.pc_print.specs.Tokens.{token_of, tokens, bytes_of_name, plain}
 use Rattle.pc_print.proofs.Pieces.{text-append}

@@ -1,13 +1,13 @@
 -- Keywords and further signs that are read whole.
 use Rattle.std.proofs.Common.{◌≡◌, ℕ, ◌<◌, true, List, ◌∷◌, length, refl, ap, ◌∙◌, arith}
 use Rattle.std.specs.List.{list_all}
-use Rattle.pc_lex.specs.declared.tokens.Sort.{Sort}
-use Rattle.pc_lex.specs.declared.tokens.Sort.TheVariants.{IfWord, ElseWord, WhileWord, ParWord, EotWord, AbortWord, WeakWord, WhenWord, PreWord, IntWord, VoidWord, ReturnWord, ReactiveInputWord, ReactiveOutputWord, Semicolon, Comma, OpenBrace, CloseBrace, Hash, Equals}
-use Rattle.pc_lex.specs.declared.fronts.Front.{Front}
-use Rattle.pc_lex.specs.declared.fronts.Front.TheVariants.{Piece}
-use Rattle.pc_lex.specs.Spelling.{spelling_of, keywords, signs}
-use Rattle.pc_lex.specs.Numbers.{is_word}
-use Rattle.pc_lex.specs.Lexing.{word_sort, run_front, sign_of, front_of}
+use Rattle.pc_grammar.specs.declared.tokens.Sort.{Sort}
+use Rattle.pc_grammar.specs.declared.tokens.Sort.TheVariants.{IfWord, ElseWord, WhileWord, ParWord, EotWord, AbortWord, WeakWord, WhenWord, PreWord, IntWord, VoidWord, ReturnWord, ReactiveInputWord, ReactiveOutputWord, Semicolon, Comma, OpenBrace, CloseBrace, Hash, Equals}
+use Rattle.pc_grammar.specs.declared.fronts.Front.{Front}
+use Rattle.pc_grammar.specs.declared.fronts.Front.TheVariants.{Piece}
+use Rattle.pc_grammar.specs.Spelling.{spelling_of, keywords, signs}
+use Rattle.pc_grammar.specs.Numbers.{is_word}
+use Rattle.pc_grammar.specs.Lexing.{word_sort, run_front, sign_of, front_of}
 use Rattle.pc_print.proofs.Fronts.{Breaks, ReadWhole, word_front}
 use Rattle.pc_print.proofs.Stands.{MarkRead}
 

@@ -4,19 +4,19 @@ use Rattle.pt_base.specs.declared.operators.UnOp.{UnOp}
 use Rattle.pt_base.specs.declared.operators.UnOp.TheVariants.{Neg, Not, Flip}
 use Rattle.pt_base.specs.declared.operators.BinOp.{BinOp}
 use Rattle.pt_base.specs.declared.operators.BinOp.TheVariants.{Or, And, BitOr, BitXor, BitAnd, Equal, NotEqual, Less, LessEqual, Greater, GreaterEqual, ShiftLeft, ShiftRight, Add, Sub, Mul, Div, Rem}
-use Rattle.pc_lex.specs.declared.tokens.Sort.{Sort}
-use Rattle.pc_lex.specs.declared.tokens.Sort.TheVariants.{IntWord, VoidWord, IfWord, ElseWord, WhileWord, ReturnWord, ParWord, EotWord, AbortWord, WeakWord, WhenWord, PreWord, ReactiveInputWord, ReactiveOutputWord, DoubleLeftAngle, DoubleRightAngle, LeftAngleEquals, RightAngleEquals, DoubleEquals, BangEquals, DoubleAmpersand, DoubleBar, OpenParenthesis, CloseParenthesis, OpenBrace, CloseBrace, OpenBracket, CloseBracket, Semicolon, Comma, Equals, Plus, Minus, Star, Slash, Percent, LeftAngle, RightAngle, Bang, Tilde, Ampersand, Bar, Caret, Hash}
-use Rattle.pc_ast.specs.declared.expressions.Word.{Word}
-use Rattle.pc_ast.specs.declared.expressions.Expr.{Expr, fold-Expr}
-use Rattle.pc_ast.specs.declared.expressions.Expr.TheOpen.{Expr-F, Number as OpenNumber, Var as OpenVar, Elem as OpenElem, Unary as OpenUnary, Chain as OpenChain}
-use Rattle.pc_ast.specs.declared.expressions.Goal.{Goal}
-use Rattle.pc_ast.specs.declared.expressions.Goal.TheVariants.{Nothing, Var as GoalVar, Elem as GoalElem}
-use Rattle.pc_ast.specs.declared.statements.Stmt.{Stmt, fold-Stmt}
-use Rattle.pc_ast.specs.declared.statements.Stmt.TheOpen.{Stmt-F, Skip, Assign, Call, Block, If, While, Eot, Par, Abort}
-use Rattle.pc_ast.specs.declared.programs.CellKind.{CellKind}
-use Rattle.pc_ast.specs.declared.programs.CellKind.TheVariants.{Input, Output}
-use Rattle.pc_ast.specs.declared.programs.Item.{Item}
-use Rattle.pc_ast.specs.declared.programs.Item.TheVariants.{Scalar, Array, Function}
+use Rattle.pc_grammar.specs.declared.tokens.Sort.{Sort}
+use Rattle.pc_grammar.specs.declared.tokens.Sort.TheVariants.{IntWord, VoidWord, IfWord, ElseWord, WhileWord, ReturnWord, ParWord, EotWord, AbortWord, WeakWord, WhenWord, PreWord, ReactiveInputWord, ReactiveOutputWord, DoubleLeftAngle, DoubleRightAngle, LeftAngleEquals, RightAngleEquals, DoubleEquals, BangEquals, DoubleAmpersand, DoubleBar, OpenParenthesis, CloseParenthesis, OpenBrace, CloseBrace, OpenBracket, CloseBracket, Semicolon, Comma, Equals, Plus, Minus, Star, Slash, Percent, LeftAngle, RightAngle, Bang, Tilde, Ampersand, Bar, Caret, Hash}
+use Rattle.pc_grammar.specs.declared.expressions.Word.{Word}
+use Rattle.pc_grammar.specs.declared.expressions.Expr.{Expr, fold-Expr}
+use Rattle.pc_grammar.specs.declared.expressions.Expr.TheOpen.{Expr-F, Number as OpenNumber, Var as OpenVar, Elem as OpenElem, Unary as OpenUnary, Chain as OpenChain}
+use Rattle.pc_grammar.specs.declared.expressions.Goal.{Goal}
+use Rattle.pc_grammar.specs.declared.expressions.Goal.TheVariants.{Nothing, Var as GoalVar, Elem as GoalElem}
+use Rattle.pc_grammar.specs.declared.statements.Stmt.{Stmt, fold-Stmt}
+use Rattle.pc_grammar.specs.declared.statements.Stmt.TheOpen.{Stmt-F, Skip, Assign, Call, Block, If, While, Eot, Par, Abort}
+use Rattle.pc_grammar.specs.declared.programs.CellKind.{CellKind}
+use Rattle.pc_grammar.specs.declared.programs.CellKind.TheVariants.{Input, Output}
+use Rattle.pc_grammar.specs.declared.programs.Item.{Item}
+use Rattle.pc_grammar.specs.declared.programs.Item.TheVariants.{Scalar, Array, Function}
 use Rattle.pc_grammar.specs.Signs.{level_of}
 use Rattle.pc_grammar.specs.Trees.{Program}
 use Rattle.pc_print.specs.Parts.{Part, mark, word, literal, blank, margin, line_end, text}

@@ -1,9 +1,9 @@
 -- What a canonical text is made of, and how each part looks: docs/language.md, "Canonical text".
 use Rattle.std.specs.Prelude.{ℕ, zero, suc, List, [], ◌∷◌, ◌++◌}
 use Rattle.std.specs.Fmt.{decimal}
-use Rattle.pc_lex.specs.declared.tokens.Sort.{Sort}
-use Rattle.pc_lex.specs.Spelling.{spelling_of}
-use Rattle.pc_ast.specs.declared.expressions.Word.{Word}
+use Rattle.pc_grammar.specs.declared.tokens.Sort.{Sort}
+use Rattle.pc_grammar.specs.Spelling.{spelling_of}
+use Rattle.pc_grammar.specs.declared.expressions.Word.{Word}
 
 -- a keyword or a sign; a name; a number; a blank; the blanks before a line of a level; a line's end
 pub data Part : Type 0 where

@@ -3,11 +3,8 @@ ghost use Rattle.pc_print.specs.Parts.{text};
 ghost use Rattle.pc_print.specs.Canonical.{written, pieces, chain_level, gap, is_neg, tighter, further, operands, expression_text};
 
 use crate::marks::{binary_sort, put_blank, put_mark, put_word, unary_sort};
-use pc_ast::{Expr, Word};
-use pc_grammar::level_number;
-use pc_lex::Sort;
-use pt_base::{BinOp, Memory, UnOp};
-use pt_lines::put_number;
+use pc_grammar::{Expr, Sort, Word, level_number};
+use pt_base::{BinOp, Memory, UnOp, put_number};
 
 /// Whether the expression is a unary `-`.
 #[tactic(auto, using(crate::proofs::Pieces::pieces_are))]

@@ -6,11 +6,8 @@ use crate::expressions::put_expression;
 use crate::lines::{put_equals, put_line_end, put_margin, put_mark_line, put_stop};
 use crate::marks::{put_blank, put_mark, put_signed, put_word};
 use crate::statements::put_statements;
-use pc_ast::{CellKind, Expr, Item, Word};
-use pc_grammar::Program;
-use pc_lex::Sort;
-use pt_base::{Memory, Text};
-use pt_lines::put_number;
+use pc_grammar::{CellKind, Expr, Item, Program, Sort, Word};
+use pt_base::{Memory, Text, put_number};
 use std::alloc::Global;
 
 /// Puts what stands before an input's or an output's type at the end.

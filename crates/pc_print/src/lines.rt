@@ -1,14 +1,12 @@
 ghost use Rattle.std.specs.Prelude.{◌≡◌, ◌+◌, [], ◌∷◌, ◌++◌, OnOk, IfOk};
-ghost use Rattle.pc_lex.specs.Spelling.{spelling_of};
+ghost use Rattle.pc_grammar.specs.Spelling.{spelling_of};
 ghost use Rattle.pc_print.specs.Parts.{text, mark, blanks};
 ghost use Rattle.pc_print.specs.Canonical.{expression, in_parentheses, listed, more_listed, behind_comma, named, line, goal, equals, most_turns, weakly, pause_line, assignment_line, call_line, threads_line, if_line, while_line, abort_line, when_line};
 
 use crate::expressions::put_expression;
 use crate::marks::{put_blank, put_mark, put_word};
-use pc_ast::{Expr, Goal, Word};
-use pc_lex::Sort;
-use pt_base::Memory;
-use pt_lines::put_number;
+use pc_grammar::{Expr, Goal, Sort, Word};
+use pt_base::{Memory, put_number};
 
 /// The next level. No memory holds a tree whose levels go beyond 64 bits.
 pub fn deeper(level: u64) -> Result<u64, Memory>

@@ -1,12 +1,10 @@
 ghost use Rattle.std.specs.Prelude.{◌≡◌, [], ◌∷◌, ◌++◌, OnOk};
-ghost use Rattle.pc_lex.specs.Spelling.{spelling_of};
+ghost use Rattle.pc_grammar.specs.Spelling.{spelling_of};
 ghost use Rattle.pc_print.specs.Parts.{text};
 ghost use Rattle.pc_print.specs.Canonical.{signed, unary_sign, binary_sign};
 
-use pc_ast::Word;
-use pc_lex::{Sort, spelling};
-use pt_base::{BinOp, Memory, UnOp};
-use pt_lines::put_number;
+use pc_grammar::{Sort, Word, spelling};
+use pt_base::{BinOp, Memory, UnOp, put_number};
 
 /// Puts a keyword or a sign at the end.
 pub fn put_mark(out: &mut Vec<u8>, sort: Sort) -> Result<(), Memory>

@@ -6,8 +6,7 @@ use crate::lines::{
     deeper, put_abort, put_assignment, put_call, put_if, put_mark_line, put_pause, put_threads,
     put_when, put_while,
 };
-use pc_ast::{Stmt, Word};
-use pc_lex::Sort;
+use pc_grammar::{Sort, Stmt, Word};
 use pt_base::Memory;
 
 /// Puts the lines of a statement at a level at the end.

@@ -12,13 +12,13 @@ use Rattle.mb_isa.specs.declared.Reg.TheVariants.{R0, R3, R4, R5}
 use Rattle.mb_isa.specs.declared.Instr.TheVariants.{Addk}
 use Rattle.mb_isa.specs.Registers.{number}
 use Rattle.pt_image.specs.declared.Parts.{Parts}
-use Rattle.mb_step.specs.Cells.{Cells, register, with_register, word_at, with_word}
+use Rattle.mb_isa.specs.Cells.{Cells, register, with_register, word_at, with_word}
 use Rattle.pc_meaning.specs.Values as values
-use Rattle.pc_ir.specs.declared.nodes.Place.{Place}
-use Rattle.pc_ir.specs.declared.nodes.Step.{Step}
-use Rattle.pc_ir.specs.declared.nodes.Step.TheVariants.{Const as const, Load as load, Save as save, Unary as unary_step, Binary as binary_step, TakeElement as take_element, PutElement as put_element, Move as move}
-use Rattle.pc_ir.specs.Flow.{State, put_temp, put_store, step, run}
-use Rattle.pc_region.specs.Words.{Written, alone}
+use Rattle.pc_lower.specs.declared.nodes.Place.{Place}
+use Rattle.pc_lower.specs.declared.nodes.Step.{Step}
+use Rattle.pc_lower.specs.declared.nodes.Step.TheVariants.{Const as const, Load as load, Save as save, Unary as unary_step, Binary as binary_step, TakeElement as take_element, PutElement as put_element, Move as move}
+use Rattle.pc_lower.specs.Flow.{State, put_temp, put_store, step, run}
+use Rattle.pc_lower.specs.Words.{Written, alone}
 use Rattle.pc_regs.specs.declared.placement.Placement.{Placement}
 use Rattle.pc_regs.specs.declared.placement.Location.{Location}
 use Rattle.pc_regs.specs.declared.placement.Location.TheVariants.{Register as in_register, Memory as in_memory}

@@ -1,12 +1,12 @@
 -- The temporaries that a flow uses are enough.
 use Rattle.std.proofs.Common.{ℕ, ◌+◌, ◌≤◌, ◌&&◌, nat_lt, nat_le, max, Bool, IsTrue, List, [], ◌∷◌, length, Option, Some, None, arith}
 use Rattle.std.specs.List.{AllByRecursion}
-use Rattle.pc_ir.specs.declared.nodes.Place.{Place}
-use Rattle.pc_ir.specs.declared.nodes.Place.TheVariants.{Temp as temp, Held as held}
-use Rattle.pc_ir.specs.declared.nodes.Step.{Step}
-use Rattle.pc_ir.specs.declared.nodes.Step.TheVariants.{Const as const, Load as load, Save as save, Unary as unary_step, Binary as binary_step, TakeElement as take_element, PutElement as put_element, Move as move}
-use Rattle.pc_ir.specs.declared.nodes.Test.{Test}
-use Rattle.pc_ir.specs.Flow.{Node, Nodes, straight, sequence, branch, turns, bounded, call, pause, fork, guard, no_nodes, and, Flow}
+use Rattle.pc_lower.specs.declared.nodes.Place.{Place}
+use Rattle.pc_lower.specs.declared.nodes.Place.TheVariants.{Temp as temp, Held as held}
+use Rattle.pc_lower.specs.declared.nodes.Step.{Step}
+use Rattle.pc_lower.specs.declared.nodes.Step.TheVariants.{Const as const, Load as load, Save as save, Unary as unary_step, Binary as binary_step, TakeElement as take_element, PutElement as put_element, Move as move}
+use Rattle.pc_lower.specs.declared.nodes.Test.{Test}
+use Rattle.pc_lower.specs.Flow.{Node, Nodes, straight, sequence, branch, turns, bounded, call, pause, fork, guard, no_nodes, and, Flow}
 use Rattle.pc_regs.specs.declared.placement.Placement.{Placement}
 use Rattle.pc_regs.specs.Placement.{IsPlacement, is_placed}
 use Rattle.pc_regs.specs.Words.{is_word, is_step_written, are_written, is_test_written, writing_of}

@@ -1,6 +1,6 @@
 -- Lists of words one after another.
 use Rattle.std.proofs.Common.{◌≡◌, arith, length, List, [], ◌∷◌, ◌++◌, refl, ap, ◌∙◌, append_assoc}
-use Rattle.pc_region.specs.Words.{Written, alone, after_imm, words_in}
+use Rattle.pc_lower.specs.Words.{Written, alone, after_imm, words_in}
 use Rattle.mb_isa.specs.declared.words.Instr.{Instr}
 use Rattle.mb_isa.specs.declared.words.Instr.TheVariants.{Imm}
 use Rattle.pc_regs.specs.Writings.{instrs}

@@ -8,8 +8,8 @@ use Rattle.mb_isa.specs.declared.Reg.TheVariants.{R3, R6, R7, R8}
 use Rattle.mb_isa.specs.declared.Instr.TheVariants.{And, Or, Lwi, Swi}
 use Rattle.mb_isa.specs.Registers.{number}
 use Rattle.pt_image.specs.declared.Parts.{Parts}
-use Rattle.mb_step.specs.Cells.{Cells, register, with_register, word_at, with_word, compared}
-use Rattle.pc_region.specs.Words.{Written, alone}
+use Rattle.mb_isa.specs.Cells.{Cells, register, with_register, word_at, with_word, compared}
+use Rattle.pc_lower.specs.Words.{Written, alone}
 use Rattle.pc_regs.specs.Words.{last_index, outside, masked, wide, byte_of, take_words, put_words}
 use Rattle.pc_regs.proofs.Numbers.{negative, mask_of, is_outside, sign_filled, mask_turned, zero_and, last_fits, four_times}
 use Rattle.pc_regs.proofs.Registers.{does, followed, IsOperand, Flags, Results, Gives, gives, operand_above, compare_flags, operand_joins, value_31, with_31, results_then}

@@ -8,8 +8,8 @@ use Rattle.mb_isa.specs.declared.Instr.{Instr}
 use Rattle.mb_isa.specs.declared.Instr.TheVariants.{Addik, Lwi, Swi}
 use Rattle.mb_isa.specs.Operands.{immediate, word_at_byte}
 use Rattle.pt_image.specs.declared.Parts.{Parts}
-use Rattle.mb_step.specs.Cells.{Cells, register, with_register, word_at, with_word, loads, stores, loaded, stored, sets, cells_do}
-use Rattle.pc_region.specs.Words.{Written, alone, after_imm, and_then}
+use Rattle.mb_isa.specs.Cells.{Cells, register, with_register, word_at, with_word, loads, stores, loaded, stored, sets, cells_do}
+use Rattle.pc_lower.specs.Words.{Written, alone, after_imm, and_then}
 use Rattle.pc_regs.specs.Words.{is_short, upper_half, lower_half, wide, byte_of}
 use Rattle.pc_regs.proofs.Numbers.{halves, address}
 use Rattle.pc_regs.proofs.Registers.{does}

@@ -13,7 +13,7 @@ use Rattle.pt_base.specs.declared.BinOp.{BinOp}
 use Rattle.pt_base.specs.declared.UnOp.{UnOp}
 use Rattle.pt_base.specs.declared.UnOp.TheVariants as un
 use Rattle.mb_isa.specs.Operands.{immediate, word_at_byte}
-use Rattle.mb_step.specs.Cells.{with_top, logical_right}
+use Rattle.mb_isa.specs.Cells.{with_top, logical_right}
 use Rattle.pc_regs.specs.Words.{is_short, is_word, upper_half, lower_half, last_index}
 
 -- whether a number is below 0

@@ -12,8 +12,8 @@ use Rattle.mb_isa.specs.declared.Instr.{Instr}
 use Rattle.mb_isa.specs.declared.Instr.TheVariants.{Addk, Rsubk, Cmp, Or, And, Xor, Mul, Idiv, Bsra, Bsll}
 use Rattle.mb_isa.specs.Registers.{number}
 use Rattle.pt_image.specs.declared.Parts.{Parts}
-use Rattle.mb_step.specs.Cells.{Cells, register, with_register, compared}
-use Rattle.pc_region.specs.Words.{Written, alone}
+use Rattle.mb_isa.specs.Cells.{Cells, register, with_register, compared}
+use Rattle.pc_lower.specs.Words.{Written, alone}
 use Rattle.pc_regs.specs.Words.{unary_words, binary_words, sign, no_sign, unequal, unequal_zero, both_unequal_zero}
 use Rattle.pc_regs.proofs.Numbers.{negative, fits_with_top, sign-with_top, fits_or, sign-or, true_is, turned_twice, other_is, at_most_is, xor_ones, from_zero, rest_is}
 use Rattle.pc_regs.proofs.Registers.{does, followed, IsOperand, Flags, Results, BothFlags, compare_flags, second_set, either_set, both_set, unequal_zero_flags, sign_results, no_sign_results, results_then, one_word, gives}

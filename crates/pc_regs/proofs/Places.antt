@@ -4,12 +4,12 @@ use Rattle.std.specs.Int.{w32}
 use Rattle.std.proofs.lemmas.Bool.{cases_lt, false≢true}
 use Rattle.pt_base.specs.Operators.{same}
 use Rattle.mb_isa.specs.Registers.{number, reg_at}
-use Rattle.mb_step.specs.Cells.{Cells, word_at}
+use Rattle.mb_isa.specs.Cells.{Cells, word_at}
 use Rattle.pc_meaning.specs.Values as values
-use Rattle.pc_ir.specs.declared.nodes.Place.{Place}
-use Rattle.pc_ir.specs.declared.nodes.Place.TheVariants.{Temp as temp, Held as held}
-use Rattle.pc_ir.specs.Flow.{State, same_place}
-use Rattle.pc_region.specs.Laws.{Agree}
+use Rattle.pc_lower.specs.declared.nodes.Place.{Place}
+use Rattle.pc_lower.specs.declared.nodes.Place.TheVariants.{Temp as temp, Held as held}
+use Rattle.pc_lower.specs.Flow.{State, same_place}
+use Rattle.pc_lower.specs.RegionLaws.{Agree}
 use Rattle.pc_regs.specs.declared.placement.Placement.{Placement}
 use Rattle.pc_regs.specs.declared.placement.Location.{Location}
 use Rattle.pc_regs.specs.declared.placement.Location.TheVariants.{Register as in_register, Memory as in_memory}

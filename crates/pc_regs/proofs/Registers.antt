@@ -8,11 +8,11 @@ use Rattle.mb_isa.specs.declared.Reg.TheVariants.{R0, R6, R7}
 use Rattle.mb_isa.specs.Registers.{number}
 use Rattle.pt_image.specs.declared.Parts.{Parts}
 use Rattle.mb_isa.proofs.Inverse.{number-below}
-use Rattle.mb_step.specs.Cells.{Cells, register, with_register, compared, logical_right, cells_do, machine}
+use Rattle.mb_isa.specs.Cells.{Cells, register, with_register, compared, logical_right, cells_do, machine}
 use Rattle.pt_base.specs.declared.BinOp.TheVariants as op
 use Rattle.pt_base.specs.Operators.{binary_of, truth_of, not_of, either, both, is_true}
 use Rattle.pc_regs.proofs.Numbers.{negative, fits_with_top, sign-with_top, fits_or, fits_and, sign-or, sign-and, sign_shifted, turned, true_is}
-use Rattle.pc_region.specs.Words.{Written, alone, after_imm, and_then, does_all}
+use Rattle.pc_lower.specs.Words.{Written, alone, after_imm, and_then, does_all}
 
 not_zero : (n : ℕ) → 1 ≤ n → (n == 0) ≡ false
 not_zero n h = grind arith

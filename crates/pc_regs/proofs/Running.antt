@@ -11,15 +11,15 @@ use Rattle.mb_isa.specs.declared.Reg.TheVariants.{R4}
 use Rattle.mb_isa.specs.Registers.{number}
 use Rattle.pt_image.specs.declared.Parts.{Parts}
 use Rattle.pt_image.specs.Ranges.{AllBelow}
-use Rattle.mb_step.specs.Cells.{Cells, register, word_at, with_inputs, machine}
-use Rattle.mb_step.specs.Run.{loaded_cells}
+use Rattle.mb_isa.specs.Cells.{Cells, register, word_at, with_inputs, machine}
+use Rattle.mb_isa.specs.Run.{loaded_cells}
 use Rattle.pc_meaning.specs.Values as values
 use Rattle.pc_meaning.specs.Runs.{words_at}
-use Rattle.pc_ir.specs.declared.nodes.Test.{Test}
-use Rattle.pc_ir.specs.Flow.{State, Flow, Temps, run, tested, put_store, sampled}
-use Rattle.pc_region.specs.Words.{DataLaws}
-use Rattle.pc_region.specs.Laws.{Agree}
-use Rattle.pc_region.specs.Runs.{IsRow, RunLaws}
+use Rattle.pc_lower.specs.declared.nodes.Test.{Test}
+use Rattle.pc_lower.specs.Flow.{State, Flow, Temps, run, tested, put_store, sampled}
+use Rattle.pc_lower.specs.Words.{DataLaws}
+use Rattle.pc_lower.specs.RegionLaws.{Agree}
+use Rattle.pc_lower.specs.Runs.{IsRow, RunLaws}
 use Rattle.pc_regs.specs.declared.placement.Placement.{Placement}
 use Rattle.pc_regs.specs.declared.placement.Location.{Location}
 use Rattle.pc_regs.specs.declared.placement.Location.TheVariants.{Register as in_register, Memory as in_memory}

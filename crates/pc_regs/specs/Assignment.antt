@@ -1,11 +1,11 @@
 -- How many temporaries a flow uses, and so where its words stand.
 use Rattle.std.specs.Prelude.{ℕ, ◌+◌, max, Bool, List, [], ◌∷◌, length, Option, Some, None}
-use Rattle.pc_ir.specs.declared.nodes.Place.{Place}
-use Rattle.pc_ir.specs.declared.nodes.Place.TheVariants.{Temp as temp, Held as held}
-use Rattle.pc_ir.specs.declared.nodes.Step.{Step}
-use Rattle.pc_ir.specs.declared.nodes.Step.TheVariants.{Const as const, Load as load, Save as save, Unary as unary_step, Binary as binary_step, TakeElement as take_element, PutElement as put_element, Move as move}
-use Rattle.pc_ir.specs.declared.nodes.Test.{Test}
-use Rattle.pc_ir.specs.Flow.{Node, Nodes, straight, sequence, branch, turns, bounded, call, pause, fork, guard, no_nodes, and, Flow}
+use Rattle.pc_lower.specs.declared.nodes.Place.{Place}
+use Rattle.pc_lower.specs.declared.nodes.Place.TheVariants.{Temp as temp, Held as held}
+use Rattle.pc_lower.specs.declared.nodes.Step.{Step}
+use Rattle.pc_lower.specs.declared.nodes.Step.TheVariants.{Const as const, Load as load, Save as save, Unary as unary_step, Binary as binary_step, TakeElement as take_element, PutElement as put_element, Move as move}
+use Rattle.pc_lower.specs.declared.nodes.Test.{Test}
+use Rattle.pc_lower.specs.Flow.{Node, Nodes, straight, sequence, branch, turns, bounded, call, pause, fork, guard, no_nodes, and, Flow}
 use Rattle.pc_regs.specs.declared.placement.Placement.{Placement}
 
 -- temporaries are used from 0 on, and up to this one

@@ -4,9 +4,9 @@ use Rattle.pt_base.specs.declared.UnOp.{UnOp}
 use Rattle.pt_base.specs.declared.UnOp.TheVariants.{Neg, Not, Flip}
 use Rattle.pt_base.specs.declared.BinOp.{BinOp}
 use Rattle.pt_base.specs.declared.BinOp.TheVariants.{Or, And, BitOr, BitXor, BitAnd, Equal, NotEqual, Less, LessEqual, Greater, GreaterEqual, ShiftLeft, ShiftRight, Add, Sub, Mul, Div, Rem}
-use Rattle.pc_ir.specs.declared.nodes.Step.{Step}
-use Rattle.pc_ir.specs.declared.nodes.Step.TheVariants.{Const as const, Load as load, Save as save, Unary as unary_step, Binary as binary_step, TakeElement as take_element, PutElement as put_element, Move as move}
-use Rattle.pc_ir.specs.declared.nodes.Test.{Test}
+use Rattle.pc_lower.specs.declared.nodes.Step.{Step}
+use Rattle.pc_lower.specs.declared.nodes.Step.TheVariants.{Const as const, Load as load, Save as save, Unary as unary_step, Binary as binary_step, TakeElement as take_element, PutElement as put_element, Move as move}
+use Rattle.pc_lower.specs.declared.nodes.Test.{Test}
 
 abbrev pub most_unary : UnOp → ℕ
 most_unary Neg = 5

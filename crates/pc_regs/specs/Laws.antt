@@ -4,12 +4,12 @@ use Rattle.std.specs.List.{AllByRecursion}
 use Rattle.std.specs.Int.{w32}
 use Rattle.pt_image.specs.declared.Parts.{Parts}
 use Rattle.pt_image.specs.Ranges.{AllBelow}
-use Rattle.pc_ir.specs.declared.nodes.Step.{Step}
-use Rattle.pc_ir.specs.declared.nodes.Test.{Test}
-use Rattle.pc_ir.specs.Flow.{Flow}
-use Rattle.pc_region.specs.Words.{words_in}
-use Rattle.pc_region.specs.Laws.{Agree}
-use Rattle.pc_region.specs.Runs.{RunLaws}
+use Rattle.pc_lower.specs.declared.nodes.Step.{Step}
+use Rattle.pc_lower.specs.declared.nodes.Test.{Test}
+use Rattle.pc_lower.specs.Flow.{Flow}
+use Rattle.pc_lower.specs.Words.{words_in}
+use Rattle.pc_lower.specs.RegionLaws.{Agree}
+use Rattle.pc_lower.specs.Runs.{RunLaws}
 use Rattle.pc_regs.specs.declared.placement.Placement.{Placement}
 use Rattle.pc_regs.specs.Placement.{memory_words, IsPlacement}
 use Rattle.pc_regs.specs.Words.{steps_words, test_words, writing_of}

@@ -1,9 +1,9 @@
 -- Where the cells, the temporaries and the held words of a program stand in the machine.
 use Rattle.std.specs.Prelude.{ℕ, ◌+◌, ◌-◌, ◌≤◌, nat_lt, max, ℤ, Bool, if◌then◌else◌}
 use Rattle.mb_isa.specs.Registers.{reg_at}
-use Rattle.mb_step.specs.Cells.{Cells, register, word_at}
-use Rattle.pc_ir.specs.declared.nodes.Place.{Place}
-use Rattle.pc_ir.specs.declared.nodes.Place.TheVariants.{Temp as temp, Held as held}
+use Rattle.mb_isa.specs.Cells.{Cells, register, word_at}
+use Rattle.pc_lower.specs.declared.nodes.Place.{Place}
+use Rattle.pc_lower.specs.declared.nodes.Place.TheVariants.{Temp as temp, Held as held}
 use Rattle.pc_regs.specs.declared.placement.Location.{Location}
 use Rattle.pc_regs.specs.declared.placement.Location.TheVariants.{Register as in_register, Memory as in_memory}
 use Rattle.pc_regs.specs.declared.placement.Placement.{Placement}

@@ -1,11 +1,11 @@
 -- When registers and memory stand for the words of a state.
 use Rattle.std.specs.Prelude.{ℕ, ◌==◌, nat_lt, ℤ, Bool, true, ◌&&◌, if◌then◌else◌, length}
 use Rattle.pt_base.specs.Operators.{same}
-use Rattle.mb_step.specs.Cells.{Cells, word_at}
+use Rattle.mb_isa.specs.Cells.{Cells, word_at}
 use Rattle.pc_meaning.specs.Values as values
-use Rattle.pc_ir.specs.declared.nodes.Place.{Place}
-use Rattle.pc_ir.specs.declared.nodes.Place.TheVariants.{Temp as temp, Held as held}
-use Rattle.pc_ir.specs.Flow.{State}
+use Rattle.pc_lower.specs.declared.nodes.Place.{Place}
+use Rattle.pc_lower.specs.declared.nodes.Place.TheVariants.{Temp as temp, Held as held}
+use Rattle.pc_lower.specs.Flow.{State}
 use Rattle.pc_regs.specs.declared.placement.Placement.{Placement}
 use Rattle.pc_regs.specs.Placement.{memory_words, is_placed, location_of, word_in}
 use Rattle.pc_regs.specs.Words.{is_word}

@@ -6,10 +6,10 @@ use Rattle.mb_isa.specs.declared.words.Instr.{Instr}
 use Rattle.mb_isa.specs.declared.words.Instr.TheVariants.{Imm}
 use Rattle.mb_isa.specs.Codes.{IsInstr}
 use Rattle.pt_image.specs.declared.image.Parts.{Parts}
-use Rattle.pc_ir.specs.declared.nodes.Step.{Step}
-use Rattle.pc_ir.specs.declared.nodes.Test.{Test}
-use Rattle.pc_ir.specs.Flow.{Node, Nodes, straight, sequence, branch, turns, bounded, call, pause, fork, guard, no_nodes, and, Flow}
-use Rattle.pc_region.specs.Words.{Written, alone, after_imm, IsWork, IsTest, Writing}
+use Rattle.pc_lower.specs.declared.nodes.Step.{Step}
+use Rattle.pc_lower.specs.declared.nodes.Test.{Test}
+use Rattle.pc_lower.specs.Flow.{Node, Nodes, straight, sequence, branch, turns, bounded, call, pause, fork, guard, no_nodes, and, Flow}
+use Rattle.pc_lower.specs.Words.{Written, alone, after_imm, IsWork, IsTest, Writing}
 
 -- the words, one after another
 abbrev pub instrs : List Written → List Instr

@@ -1,9 +1,9 @@
 ghost use Rattle.std.specs.Prelude.{◌≡◌, max, map};
-ghost use Rattle.pc_ir.specs.Trees.{read, all_read, pairs_of, flow_read};
+ghost use Rattle.pc_lower.specs.Trees.{read, all_read, pairs_of, flow_read};
 ghost use Rattle.pc_regs.specs.Assignment.{used_by_place, used_by_step, used_by_steps, used_by_test, used_by_option, used_by, used_by_all, used_by_bodies, used_by_aborts, placement_of};
 
 use crate::placement::Placement;
-use pc_ir::{Abort, Flow, Node, Place, Step, Test};
+use pc_lower::{Abort, Flow, Node, Place, Step, Test};
 
 // Temporaries are used from 0 on, and up to this one.
 fn used_by_place(place: Place) -> usize
@@ -61,7 +61,7 @@ fn used_by_option(test: &Option<Test>) -> usize
 }
 
 #[cycle(used_by)]
-#[tactic(auto, using(pc_ir::proofs::Trees::reads))]
+#[tactic(auto, using(pc_lower::proofs::FlowTrees::reads))]
 fn used_by(node: &Node) -> usize
     ensures { result ≡ used_by (read node.now) }
 {

@@ -2,7 +2,7 @@ ghost use Rattle.std.specs.Prelude.{◌≡◌, ◌<◌, IsTrue};
 ghost use Rattle.pc_regs.specs.Placement.{IsPlacement, is_placed, location_of, memory_words, most_memory_words};
 
 use mb_isa::Reg;
-use pc_ir::Place;
+use pc_lower::Place;
 
 /// The first temporaries stand in registers from this one on.
 const FIRST_TEMPORARY: u8 = 9;

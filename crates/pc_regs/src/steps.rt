@@ -1,7 +1,7 @@
 ghost use Rattle.std.specs.Prelude.{◌≡◌, ◌+◌, ◌≤◌, IsTrue, List, ◌++◌, OnOk, IfOk};
 ghost use Rattle.mb_isa.specs.declared.words.Instr.TheVariants.{Beqi};
-ghost use Rattle.pc_ir.specs.declared.nodes.Step.TheVariants.{Unary, Binary, TakeElement, PutElement};
-ghost use Rattle.pc_region.specs.Words.{words_in};
+ghost use Rattle.pc_lower.specs.declared.nodes.Step.TheVariants.{Unary, Binary, TakeElement, PutElement};
+ghost use Rattle.pc_lower.specs.Words.{words_in};
 ghost use Rattle.pc_regs.specs.Placement.{IsPlacement, IsNear, is_placed};
 ghost use Rattle.pc_regs.specs.Words.{moved, unary_at, binary_at, take_at, put_at, step_words, steps_words, test_words, test_register, is_step_written, are_written, is_test_written};
 ghost use Rattle.pc_regs.specs.Writings.{instrs};
@@ -14,7 +14,7 @@ use crate::words::{
     register_for,
 };
 use mb_isa::{Instr, Reg};
-use pc_ir::{Place, Step, Test};
+use pc_lower::{Place, Step, Test};
 use pt_base::{BinOp, Memory, UnOp};
 use std::alloc::Global;
 

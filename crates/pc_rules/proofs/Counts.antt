@@ -2,7 +2,7 @@
 use Rattle.std.proofs.Common.{◌≡◌, ℕ, ◌<◌, ◌+◌, min, sum_by, ◌∙◌, arith}
 use Rattle.pt_base.specs.First.{end_of}
 use Rattle.pt_base.specs.declared.rules.Rule.TheVariants.{Z3, Z7, Z8}
-use Rattle.pc_typed.specs.Typing.{Typing}
+use Rattle.pc_grammar.specs.Typing.{Typing}
 use Rattle.pc_rules.specs.Weights.{program_weight, program_passage}
 use Rattle.pc_rules.specs.Judging.{IsWithin, words, weight, passage}
 use Rattle.pc_rules.specs.Sizes.{AreSizes, AreCounted}

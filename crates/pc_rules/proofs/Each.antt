@@ -2,7 +2,7 @@
 use Rattle.std.proofs.Common.{◌≡◌, ℕ, zero, suc, ◌<◌, min, map, length, take, get_or, List, [], ◌∷◌, ◌++◌, refl, sym, ap, ◌∙◌, arith}
 use Rattle.std.proofs.lemmas.List.{map-append}
 use Rattle.std.proofs.Math.Seq.{take-suc}
-use Rattle.pc_typed.specs.declared.typed.Function.{Function}
+use Rattle.pc_grammar.specs.declared.typed.Function.{Function}
 use Rattle.pc_rules.specs.Known.{known_of, each_given}
 
 pub known_bounded : (c : ℕ) (known : List ℕ) (f : ℕ) → min c (known_of known f) ≡ min c (known_of (map (min c) known) f)

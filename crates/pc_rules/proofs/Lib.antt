@@ -6,3 +6,5 @@ pub mod Tall
 pub mod Walks
 pub mod Counts
 pub mod Verdicts
+mod Phases
+pub mod Readings

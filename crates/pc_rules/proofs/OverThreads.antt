@@ -1,7 +1,7 @@
 -- The sum of the passages over the threads.
 use Rattle.std.proofs.Common.{◌≡◌, ℕ, zero, suc, ◌+◌, ◌<◌, ◌≤◌, Bool, true, false, min, map, length, drop, get_or, List, [], ◌∷◌, refl, sym, ap, ◌∙◌, arith}
 use Rattle.std.specs.Prelude.{if◌then◌else◌}
-use Rattle.pc_typed.specs.declared.typed.Function.{Function}
+use Rattle.pc_grammar.specs.declared.typed.Function.{Function}
 use Rattle.pc_rules.specs.Known.{known_of}
 use Rattle.pc_rules.specs.Weights.{thread_sum}
 

@@ -4,12 +4,12 @@ use Rattle.std.specs.Prelude.{sum}
 use Rattle.std.proofs.Math.Nat.{le-mul_of_pos_right}
 use Rattle.std.proofs.lemmas.List.Sums.{sum_by-cons}
 use Rattle.pt_base.specs.declared.rules.Span.{Span}
-use Rattle.pc_ast.specs.declared.expressions.Expr.{Expr}
-use Rattle.pc_ast.specs.declared.statements.Stmt.{Stmt}
-use Rattle.pc_ast.specs.declared.statements.Stmt.TheVariants.{While as WhileStmt, rolls-While}
-use Rattle.pc_ast.specs.declared.statements.Stmt.TheFolds.{fold-roll-Stmt, ind-Stmt, map-Stmt}
-use Rattle.pc_ast.specs.declared.statements.Stmt.TheViews.{roll-Stmt}
-use Rattle.pc_ast.specs.declared.statements.Stmt.TheOpen.{Stmt-F, Skip, Assign, Call, Block, If, While, Eot, Par, Abort}
+use Rattle.pc_grammar.specs.declared.expressions.Expr.{Expr}
+use Rattle.pc_grammar.specs.declared.statements.Stmt.{Stmt}
+use Rattle.pc_grammar.specs.declared.statements.Stmt.TheVariants.{While as WhileStmt, rolls-While}
+use Rattle.pc_grammar.specs.declared.statements.Stmt.TheFolds.{fold-roll-Stmt, ind-Stmt, map-Stmt}
+use Rattle.pc_grammar.specs.declared.statements.Stmt.TheViews.{roll-Stmt}
+use Rattle.pc_grammar.specs.declared.statements.Stmt.TheOpen.{Stmt-F, Skip, Assign, Call, Block, If, While, Eot, Par, Abort}
 use Rattle.pc_rules.specs.Weights.{expression_weight, loop_words, words_step, statement_words, statement_passage, function_passage}
 use Rattle.pc_rules.proofs.Each.{known_bounded, IsBounded}
 

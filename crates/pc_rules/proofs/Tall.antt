@@ -3,11 +3,11 @@ use Rattle.std.proofs.Common.{◌≡◌, ℕ, zero, suc, ◌<◌, ◌≤◌, min
 use Rattle.std.specs.Prelude.{nat_lt}
 use Rattle.std.proofs.lemmas.List.Sums.{fold-append}
 use Rattle.pt_base.specs.declared.rules.Rule.TheVariants.{Z6}
-use Rattle.pc_ast.specs.declared.statements.Stmt.{Stmt}
-use Rattle.pc_ast.specs.declared.statements.Stmt.TheFolds.{fold-roll-Stmt, ind-Stmt, map-Stmt}
-use Rattle.pc_ast.specs.declared.statements.Stmt.TheViews.{roll-Stmt}
-use Rattle.pc_ast.specs.declared.statements.Stmt.TheOpen.{Stmt-F, Skip, Assign, Call, Block, If, While, Eot, Par, Abort}
-use Rattle.pc_typed.specs.declared.typed.Function.{Function}
+use Rattle.pc_grammar.specs.declared.statements.Stmt.{Stmt}
+use Rattle.pc_grammar.specs.declared.statements.Stmt.TheFolds.{fold-roll-Stmt, ind-Stmt, map-Stmt}
+use Rattle.pc_grammar.specs.declared.statements.Stmt.TheViews.{roll-Stmt}
+use Rattle.pc_grammar.specs.declared.statements.Stmt.TheOpen.{Stmt-F, Skip, Assign, Call, Block, If, While, Eot, Par, Abort}
+use Rattle.pc_grammar.specs.declared.typed.Function.{Function}
 use Rattle.pc_rules.specs.Known.{known_of}
 use Rattle.pc_rules.specs.Nests.{greatest, height_step, called_height, function_height}
 use Rattle.pc_rules.proofs.Each.{known_bounded, IsBounded}

@@ -6,11 +6,11 @@ use Rattle.std.proofs.lemmas.Bool.{leb-true, ltb-true}
 use Rattle.pt_base.specs.declared.rules.Rule.{Rule}
 use Rattle.pt_base.specs.declared.rules.Rule.TheVariants.{E1, E2, Z2, Z3, Z4, Z5, Z6, Z7, Z8, Z9}
 use Rattle.pt_base.specs.declared.rules.Span.{Span}
-use Rattle.pc_typed.specs.declared.typed.Function.{Function}
-use Rattle.pc_typed.specs.Uses.{holds_pause}
+use Rattle.pc_grammar.specs.declared.typed.Function.{Function}
+use Rattle.pc_grammar.specs.Uses.{holds_pause}
 use Rattle.pt_base.specs.First.{end_of}
-use Rattle.pc_typed.specs.Finishing.{finishes, finishing}
-use Rattle.pc_typed.specs.Typing.{Typing}
+use Rattle.pc_grammar.specs.Finishing.{finishes, finishing}
+use Rattle.pc_grammar.specs.Typing.{Typing}
 use Rattle.pc_rules.specs.Weights.{program_weight, program_passage}
 use Rattle.pc_rules.specs.Nests.{Nest, Loop, Aborted, program_nests, heights}
 use Rattle.pc_rules.specs.Judging.{is_input, is_output, BreaksLoops, may_finish, pauses, BreaksLimits, threads, words, aborts, loops, height, weight, passage, inputs, outputs, IsWithin, IsFirstBroken, rule_broken, limit_broken}

@@ -2,10 +2,10 @@
 use Rattle.std.specs.Prelude.{ℕ, Bool, not, ◌&&◌, List, [], ◌∷◌, ◌++◌, Some, None, flat_map, count_by, sum_by, nat_le, nat_lt}
 use Rattle.pt_base.specs.declared.limits.TheConstants.{MOST_THREADS, MOST_CELL_WORDS, MOST_NESTED, MOST_HEIGHT, MOST_WEIGHT, MOST_PASSAGE, MOST_PORTS}
 use Rattle.pt_base.specs.declared.rules.Rule.TheVariants.{E1, E2, Z2, Z3, Z4, Z5, Z6, Z7, Z8, Z9}
-use Rattle.pc_typed.specs.declared.typed.Function.{Function}
-use Rattle.pc_typed.specs.Uses.{holds_pause}
-use Rattle.pc_typed.specs.Finishing.{finishes, finishing}
-use Rattle.pc_typed.specs.Typing.{Typing}
+use Rattle.pc_grammar.specs.declared.typed.Function.{Function}
+use Rattle.pc_grammar.specs.Uses.{holds_pause}
+use Rattle.pc_grammar.specs.Finishing.{finishes, finishing}
+use Rattle.pc_grammar.specs.Typing.{Typing}
 use Rattle.pc_rules.specs.Weights.{program_weight, program_passage}
 use Rattle.pc_rules.specs.Nests.{Nest, Loop, Aborted, program_nests, heights}
 use Rattle.pt_base.specs.First.{Fault, end_of, fault_if, first_of}

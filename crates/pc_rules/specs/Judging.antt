@@ -7,14 +7,14 @@ use Rattle.pt_base.specs.declared.Rule.TheVariants.{E1, E2, Z2, Z3, Z4, Z5, Z6, 
 use Rattle.pt_base.specs.declared.Span.{Span}
 use Rattle.pt_base.specs.declared.Refusal.{Refusal}
 use Rattle.pt_base.specs.declared.Refusal.TheVariants.{Broken, Memory}
-use Rattle.pc_ast.specs.declared.CellKind.{CellKind}
-use Rattle.pc_ast.specs.declared.CellKind.TheVariants.{Input, Output}
-use Rattle.pc_ast.specs.declared.Stmt.{Stmt}
-use Rattle.pc_typed.specs.declared.Cell.{Cell}
-use Rattle.pc_typed.specs.declared.Function.{Function}
-use Rattle.pc_typed.specs.Uses.{holds_pause}
-use Rattle.pc_typed.specs.Finishing.{finishes, finishing}
-use Rattle.pc_typed.specs.Typing.{Typing}
+use Rattle.pc_grammar.specs.declared.CellKind.{CellKind}
+use Rattle.pc_grammar.specs.declared.CellKind.TheVariants.{Input, Output}
+use Rattle.pc_grammar.specs.declared.Stmt.{Stmt}
+use Rattle.pc_grammar.specs.declared.Cell.{Cell}
+use Rattle.pc_grammar.specs.declared.Function.{Function}
+use Rattle.pc_grammar.specs.Uses.{holds_pause}
+use Rattle.pc_grammar.specs.Finishing.{finishes, finishing}
+use Rattle.pc_grammar.specs.Typing.{Typing}
 use Rattle.pc_rules.specs.Weights.{program_weight, program_passage}
 use Rattle.pc_rules.specs.Nests.{Loop, Aborted, program_nests, heights}
 

@@ -1,6 +1,6 @@
 -- What is worked out of each function, given what was worked out of those before it.
 use Rattle.std.specs.Prelude.{ℕ, List, [], ◌∷◌, ◌++◌, slice_get, unwrap_or}
-use Rattle.pc_typed.specs.declared.Function.{Function}
+use Rattle.pc_grammar.specs.declared.Function.{Function}
 
 -- what is known of a function by its number
 abbrev pub known_of : List ℕ → ℕ → ℕ

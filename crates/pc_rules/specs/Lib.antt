@@ -4,3 +4,5 @@ pub mod Weights
 pub mod Sizes
 pub mod Judging
 pub mod Faults
+pub mod Sources
+pub mod Verdicts

@@ -1,11 +1,11 @@
 -- The loops and aborts of a program, with what they stand in; heights of functions: docs/language.md, "Loops and limits".
 use Rattle.std.specs.Prelude.{ℕ, ◌+◌, max, List, [], ◌∷◌, ◌++◌, Option, Some, None, map}
 use Rattle.pt_base.specs.declared.Span.{Span}
-use Rattle.pc_ast.specs.declared.Stmt.{Stmt, fold-Stmt, para-Stmt}
-use Rattle.pc_ast.specs.declared.Stmt.TheOpen.{Stmt-F, Call, Block, If, While, Abort}
-use Rattle.pc_typed.specs.declared.Function.{Function}
-use Rattle.pc_typed.specs.Uses.{joined}
-use Rattle.pc_typed.specs.Typing.{Typing}
+use Rattle.pc_grammar.specs.declared.Stmt.{Stmt, fold-Stmt, para-Stmt}
+use Rattle.pc_grammar.specs.declared.Stmt.TheOpen.{Stmt-F, Call, Block, If, While, Abort}
+use Rattle.pc_grammar.specs.declared.Function.{Function}
+use Rattle.pc_grammar.specs.Uses.{joined}
+use Rattle.pc_grammar.specs.Typing.{Typing}
 use Rattle.pc_rules.specs.Known.{known_of, each_given}
 
 -- a loop, with `most` where it has `#n`, and an abort; each with how many of its kind it stands in

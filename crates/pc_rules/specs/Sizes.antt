@@ -1,7 +1,7 @@
 -- How large a program is: docs/language.md, "Weights".
 use Rattle.std.specs.Prelude.{◌≡◌, ◌+◌, min, count_by, sum_by}
 use Rattle.pt_base.specs.declared.limits.TheConstants.{MOST_CELL_WORDS, MOST_WEIGHT, MOST_PASSAGE}
-use Rattle.pc_typed.specs.Typing.{Typing}
+use Rattle.pc_grammar.specs.Typing.{Typing}
 use Rattle.pc_rules.specs.Weights.{program_weight, program_passage}
 use Rattle.pc_rules.specs.declared.sizes.Sizes.{Sizes}
 

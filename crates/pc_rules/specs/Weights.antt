@@ -1,13 +1,13 @@
 -- How many words a program takes at most, and how many one passage of its threads: docs/language.md, "Weights".
 use Rattle.std.specs.Prelude.{ℕ, ◌+◌, ◌*◌, List, [], ◌∷◌, Option, Some, None, sum, sum_by, if◌then◌else◌}
-use Rattle.pc_ast.specs.declared.Expr.{Expr, fold-Expr}
-use Rattle.pc_ast.specs.declared.Expr.TheOpen.{Expr-F, Number, Var, Elem, Unary, Chain}
-use Rattle.pc_ast.specs.declared.Goal.{Goal}
-use Rattle.pc_ast.specs.declared.Goal.TheVariants.{Nothing, Var as GoalVar, Elem as GoalElem}
-use Rattle.pc_ast.specs.declared.Stmt.{Stmt, fold-Stmt}
-use Rattle.pc_ast.specs.declared.Stmt.TheOpen.{Stmt-F, Skip, Assign, Call, Block, If, While, Eot, Par, Abort}
-use Rattle.pc_typed.specs.declared.Function.{Function}
-use Rattle.pc_typed.specs.Typing.{Typing}
+use Rattle.pc_grammar.specs.declared.Expr.{Expr, fold-Expr}
+use Rattle.pc_grammar.specs.declared.Expr.TheOpen.{Expr-F, Number, Var, Elem, Unary, Chain}
+use Rattle.pc_grammar.specs.declared.Goal.{Goal}
+use Rattle.pc_grammar.specs.declared.Goal.TheVariants.{Nothing, Var as GoalVar, Elem as GoalElem}
+use Rattle.pc_grammar.specs.declared.Stmt.{Stmt, fold-Stmt}
+use Rattle.pc_grammar.specs.declared.Stmt.TheOpen.{Stmt-F, Skip, Assign, Call, Block, If, While, Eot, Par, Abort}
+use Rattle.pc_grammar.specs.declared.Function.{Function}
+use Rattle.pc_grammar.specs.Typing.{Typing}
 use Rattle.pc_rules.specs.Known.{known_of, each_given}
 
 -- ---- expressions

@@ -2,7 +2,7 @@ ghost use Rattle.std.specs.Prelude.{◌≡◌, ◌+◌, min, sum_by};
 ghost use Rattle.pc_rules.specs.Weights.{expression_weight, value_weight, result_weight, goal_weight, call_weight};
 
 use crate::sums::{MOST_WORDS, plus};
-use pc_ast::{Expr, Goal};
+use pc_grammar::{Expr, Goal};
 use pt_base::BinOp;
 
 #[cycle(expression)]

@@ -3,8 +3,7 @@ ghost use Rattle.pc_rules.specs.Weights.{value_weight, frame_weight};
 
 use crate::expressions;
 use crate::sums::{MOST_WORDS, plus};
-use pc_ast::Expr;
-use pc_typed::Function;
+use pc_grammar::{Expr, Function};
 
 fn locals(all: &[(u32, Option<Expr<u32>>)]) -> u64
     ensures { result ≡ min MOST_WORDS (sum_by (λ p. 4 + value_weight p.1) all.now) }

@@ -2,8 +2,7 @@ ghost use Rattle.std.specs.Prelude.{◌≡◌, min, map, IfOk};
 ghost use Rattle.pc_rules.specs.Nests.{greatest, called_height, function_height, heights};
 
 use crate::known::known_of;
-use pc_ast::Stmt;
-use pc_typed::Function;
+use pc_grammar::{Function, Stmt};
 use pt_base::{MOST_HEIGHT, Memory};
 use std::alloc::Global;
 

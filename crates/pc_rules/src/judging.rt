@@ -5,7 +5,7 @@ ghost use Rattle.pc_rules.specs.Sizes.{AreSizes};
 use crate::limits::note_limits;
 use crate::noting::{Noted, of_functions};
 use crate::sizes::Sizes;
-use pc_typed::Typed;
+use pc_grammar::Typed;
 use pt_base::Refusal;
 use std::alloc::Global;
 

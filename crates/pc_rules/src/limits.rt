@@ -9,8 +9,7 @@ use crate::heights::height_of_each;
 use crate::known::known_of;
 use crate::sizes::Sizes;
 use crate::weights::{passage, weight};
-use pc_ast::CellKind;
-use pc_typed::{Cell, Function, Typed};
+use pc_grammar::{Cell, CellKind, Function, Typed};
 use pt_base::{
     First, MOST_CELL_WORDS, MOST_HEIGHT, MOST_PASSAGE, MOST_PORTS, MOST_THREADS, MOST_WEIGHT,
     Memory, Rule, Span,

@@ -1,12 +1,11 @@
 ghost use Rattle.std.specs.Prelude.{◌≡◌, ◌+◌, min, fold, map, None};
-ghost use Rattle.pc_typed.specs.Finishing.{finishing};
-ghost use Rattle.pc_typed.specs.Uses.{joined};
+ghost use Rattle.pc_grammar.specs.Finishing.{finishing};
+ghost use Rattle.pc_grammar.specs.Uses.{joined};
 ghost use Rattle.pc_rules.specs.Nests.{Loop, Aborted, one_more, nests, function_nests};
 ghost use Rattle.pt_base.specs.First.{first_of};
 ghost use Rattle.pc_rules.specs.Faults.{nesting_faults_at, note_nest};
 
-use pc_ast::Stmt;
-use pc_typed::{Function, Typed, holds_pause, may_finish};
+use pc_grammar::{Function, Stmt, Typed, holds_pause, may_finish};
 use pt_base::{First, MOST_NESTED, Rule, Span};
 
 /// The first fault of the rules on loops, and the first of the limits.

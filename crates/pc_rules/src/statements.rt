@@ -5,8 +5,7 @@ use crate::expressions;
 use crate::frames::frame;
 use crate::known::known_of;
 use crate::sums::{MOST_WORDS, plus, times};
-use pc_ast::Stmt;
-use pc_typed::Function;
+use pc_grammar::{Function, Stmt};
 use std::marker::Model;
 
 /// What is counted: the words of the code, or those of one passage, given those of each function. The two differ at calls

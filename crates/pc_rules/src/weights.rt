@@ -4,7 +4,7 @@ ghost use Rattle.pc_rules.specs.Weights.{function_weight, function_passage, prog
 use crate::known::known_of;
 use crate::statements::{Counting, function};
 use crate::sums::{MOST_WORDS, plus};
-use pc_typed::{Function, Typed};
+use pc_grammar::{Function, Typed};
 use pt_base::{MOST_PASSAGE, MOST_WEIGHT, Memory};
 use std::alloc::Global;
 

@@ -4,11 +4,10 @@
 
 use pretc_top::pretc;
 use pt_base::{Memory, Text};
-use pt_host::{HostShelf, HostSink, HostSource};
-use pt_outside::Sink;
+use pt_outside::{HostShelf, HostSink, HostSource, Sink};
+use std::io;
 use std::alloc::Global;
 use std::env::FillError;
-use std::io;
 use std::process::ExitCode;
 use std::rt::Env;
 

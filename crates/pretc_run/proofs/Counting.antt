@@ -4,7 +4,7 @@ use Rattle.pt_image.specs.declared.image.Parts.{Parts}
 use Rattle.pt_trace.specs.Report.{greatest}
 use Rattle.mb_core.specs.declared.parts.Trap.{Trap}
 use Rattle.mb_core.specs.Machine.{Whole, tick_after, tick_of, Ticks}
-use Rattle.mb_step.specs.Run.{MachineState, Ticked, Ends, Trapped, tick_from, after_tick, ticks_from}
+use Rattle.mb_isa.specs.Run.{MachineState, Ticked, Ends, Trapped, tick_from, after_tick, ticks_from}
 use Rattle.pretc_run.specs.Told.{told, Ended, AllEnded}
 use Rattle.pretc_run.specs.declared.summing.Totals.{Totals}
 use Rattle.pretc_run.specs.Counted.{counted_row, counted_rows, added, summed, Counts}

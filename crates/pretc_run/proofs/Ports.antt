@@ -3,10 +3,10 @@ use Rattle.std.proofs.Common.{◌≡◌, ◌≤◌, ◌<◌, ◌+◌, ℕ, Bool,
 use Rattle.std.proofs.lemmas.List.Sums.{sum_by-cons}
 use Rattle.pt_base.specs.First.{end_of}
 use Rattle.pt_base.specs.declared.Rule.TheVariants.{Z9}
-use Rattle.pc_ast.specs.declared.CellKind.{CellKind}
-use Rattle.pc_ast.specs.declared.CellKind.TheVariants.{Input, Output, Plain, Array, Parameter, Local}
-use Rattle.pc_typed.specs.declared.Cell.{Cell}
-use Rattle.pc_typed.specs.Typing.{Typing}
+use Rattle.pc_grammar.specs.declared.CellKind.{CellKind}
+use Rattle.pc_grammar.specs.declared.CellKind.TheVariants.{Input, Output, Plain, Array, Parameter, Local}
+use Rattle.pc_grammar.specs.declared.Cell.{Cell}
+use Rattle.pc_grammar.specs.Typing.{Typing}
 use Rattle.pc_rules.specs.Judging as rules
 use Rattle.pc_rules.specs.Judging.{IsWithin}
 use Rattle.pc_meaning.specs.Programs.{program_of, chosen, rooms_from, is_input, is_output}

@@ -2,7 +2,7 @@
 use Rattle.std.proofs.Common.{◌≡◌, ℕ, ℤ, List, [], ◌∷◌, ◌++◌}
 use Rattle.pt_outside.specs.Told.{SourceTold, SinkTold}
 use Rattle.pt_image.specs.declared.image.Parts.{Parts}
-use Rattle.mb_step.specs.Run.{run_of}
+use Rattle.mb_isa.specs.Run.{run_of}
 use Rattle.pc_meaning.specs.Tree.{Program}
 use Rattle.pretc_run.specs.declared.endings.Ending.{Ending}
 use Rattle.pretc_run.specs.Endings.{number_of}

@@ -13,10 +13,10 @@ use Rattle.pretc_run.specs.Lines.{tick_lines, last_line}
 use Rattle.pt_trace.proofs.Chaining.{begins_with_none, gives_one_more, ends_with_all, ended_with_all, refuses_the_first, fails_after_whole, pulls_few, pulled_few}
 use Rattle.mb_pfu.specs.declared.TrapKind.{TrapKind}
 use Rattle.mb_core.specs.declared.parts.Trap.{Trap}
-use Rattle.mb_step.specs.Run.{MachineState}
+use Rattle.mb_isa.specs.Run.{MachineState}
 use Rattle.mb_core.specs.Machine.{Whole, fresh, tick_of, tick_after, Ticks}
-use Rattle.mb_step.specs.Run.{Ticked, Ends, Trapped, tick_from}
-use Rattle.mb_step.specs.Run.{run_of, loaded, ticks_from, after_tick}
+use Rattle.mb_isa.specs.Run.{Ticked, Ends, Trapped, tick_from}
+use Rattle.mb_isa.specs.Run.{run_of, loaded, ticks_from, after_tick}
 use Rattle.pretc_run.specs.declared.endings.Ending.{Ending}
 use Rattle.pretc_run.specs.declared.endings.Ending.TheVariants as end
 use Rattle.pretc_run.specs.Endings.{line_of}

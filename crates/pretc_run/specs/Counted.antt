@@ -2,7 +2,7 @@
 use Rattle.std.specs.Prelude.{◌≡◌, ℕ, zero, suc, ◌+◌, ◌%◌, max, ℤ, pos, List, [], ◌∷◌, replicate, None, fold}
 use Rattle.std.specs.Int.{w32, int_wrapping_add}
 use Rattle.mb_core.specs.Machine.{Whole}
-use Rattle.mb_step.specs.Run.{Ticked, Ends, Trapped}
+use Rattle.mb_isa.specs.Run.{Ticked, Ends, Trapped}
 use Rattle.pretc_run.specs.declared.summing.Totals.{Totals}
 
 -- each input of a tick is its number modulo 10

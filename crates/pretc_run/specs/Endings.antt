@@ -1,7 +1,7 @@
 -- How a call ends: docs/commands.md, "Statuses".
 use Rattle.std.specs.Prelude.{ℕ, List, [], codes}
 use Rattle.pt_trace.specs.Refused.{refused_line, trace_line, trap_line, costs_line, cost_line}
-use Rattle.tk_costs.specs.Reading.{key_of}
+use Rattle.tk_cert.specs.CostTables.{key_of}
 use Rattle.pt_trace.specs.Verdict.{no_line, image_line, cert_line}
 use Rattle.pretc_run.specs.declared.endings.Ending.{Ending}
 use Rattle.pretc_run.specs.declared.endings.Ending.TheVariants as end

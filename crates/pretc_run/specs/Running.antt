@@ -7,8 +7,8 @@ use Rattle.pt_trace.specs.Given.{HasRead, IsWhole, IsBad, IsCut}
 use Rattle.pt_trace.specs.Report.{tick_line}
 use Rattle.pretc_run.specs.Lines.{tick_lines, last_line}
 use Rattle.mb_pfu.specs.declared.TrapKind.{TrapKind}
-use Rattle.mb_step.specs.Run.{Trapped}
-use Rattle.mb_step.specs.Run.{run_of}
+use Rattle.mb_isa.specs.Run.{Trapped}
+use Rattle.mb_isa.specs.Run.{run_of}
 use Rattle.pretc_run.specs.declared.endings.Ending.{Ending}
 use Rattle.pretc_run.specs.declared.endings.Ending.TheVariants as end
 use Rattle.pretc_run.specs.Endings.{line_of}

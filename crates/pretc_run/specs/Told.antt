@@ -1,6 +1,6 @@
 -- What a report tells of the ticks of a run.
 use Rattle.std.specs.Prelude.{ℕ, ℤ, List, [], ◌∷◌}
-use Rattle.mb_step.specs.Run.{Ticked, Ends, Trapped}
+use Rattle.mb_isa.specs.Run.{Ticked, Ends, Trapped}
 
 -- the outputs and the cycles of each tick that ended
 abbrev pub told : List Ticked → List (List ℤ × ℕ)

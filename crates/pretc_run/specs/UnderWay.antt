@@ -8,8 +8,8 @@ use Rattle.pt_trace.specs.Given.{HasGiven}
 use Rattle.pt_trace.specs.Report.{tick_line, greatest}
 use Rattle.pretc_run.specs.Lines.{tick_lines}
 use Rattle.mb_core.specs.Machine.{Whole}
-use Rattle.mb_step.specs.Run.{loaded, ticks_from}
-use Rattle.mb_step.specs.Run.{Ticked, Ends, Trapped}
+use Rattle.mb_isa.specs.Run.{loaded, ticks_from}
+use Rattle.mb_isa.specs.Run.{Ticked, Ends, Trapped}
 use Rattle.pretc_run.specs.declared.endings.Ending.{Ending}
 use Rattle.pretc_run.specs.declared.endings.Ending.TheVariants as end
 use Rattle.pretc_run.specs.Endings.{line_of}

@@ -8,9 +8,8 @@ ghost use Rattle.pretc_run.specs.Meant.{MeanCallComes};
 use crate::closing::finish;
 use crate::endings::Ending;
 use crate::meaning::mean;
-use pc_ast::CellKind;
+use pc_grammar::{Cell, CellKind, Typed};
 use pc_meaning::Meaning;
-use pc_typed::{Cell, Typed};
 use pt_outside::{Sink, Source};
 use std::alloc::Global;
 

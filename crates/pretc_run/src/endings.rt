@@ -7,7 +7,7 @@ use pt_trace::{
     LineBuffer, cert_line, cost_line, costs_line, image_line, no_line, refused_line, trace_line,
     trap_line,
 };
-use tk_costs::key;
+use tk_cert::key;
 
 /// How a call of `pretc` ends. A call whose sink fails ends with `WRITE_FAULT` instead.
 #[derive(Clone, Copy)]

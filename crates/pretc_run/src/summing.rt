@@ -1,6 +1,6 @@
 ghost use Rattle.std.specs.Prelude.{◌≡◌, None, length};
 ghost use Rattle.mb_core.specs.Machine.{fresh, tick_of};
-ghost use Rattle.mb_step.specs.Run.{run_of};
+ghost use Rattle.mb_isa.specs.Run.{run_of};
 ghost use Rattle.pt_trace.specs.Report.{greatest};
 ghost use Rattle.pretc_run.specs.Told.{told, Ended, AllEnded};
 ghost use Rattle.pretc_run.specs.Counted as spec;

@@ -1,8 +1,8 @@
 -- What a command that reads no trace comes to is what the call comes to.
 use Rattle.std.proofs.Common.{◌≡◌, ℕ, List, Option, Some, refl}
 use Rattle.pt_outside.specs.Told.{ShelfTold, SourceTold, SinkTold}
-use Rattle.pc_verdict.specs.Sources as source
-use Rattle.pc_verdict.specs.Verdicts.{BreaksFirst}
+use Rattle.pc_rules.specs.Sources as source
+use Rattle.pc_rules.specs.Verdicts.{BreaksFirst}
 use Rattle.pretc_top.specs.declared.commands.Command.{Command}
 use Rattle.pretc_top.specs.declared.commands.Command.TheVariants.{Check, Print, Rules, Gen}
 use Rattle.pretc_top.specs.Outside.{outside}

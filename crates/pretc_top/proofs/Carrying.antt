@@ -13,7 +13,7 @@ use Rattle.pretc_top.specs.Outside.{Outside}
 use Rattle.pretc_top.specs.Exec.{BoundedReport, bound_broke, bound_said, exec_lines}
 use Rattle.pt_base.specs.declared.Refusal.{Refusal}
 use Rattle.pt_base.specs.declared.Refusal.TheVariants.{Broken, Memory}
-use Rattle.pc_verdict.specs.Verdicts.{IsJudgedText}
+use Rattle.pc_rules.specs.Verdicts.{IsJudgedText}
 use Rattle.pretc_run.specs.declared.endings.Ending.{Ending}
 use Rattle.pretc_top.specs.Refusing.{ending_of}
 use Rattle.pretc_top.specs.Run.{AreSources, Analyses, Unanalysed, rule_broken, no_memory, IsAnalysed, IsKept, RunReady, run_in_the_bound, run_behind_the_bound}

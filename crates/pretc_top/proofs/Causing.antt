@@ -6,8 +6,8 @@ use Rattle.pt_image.specs.declared.image.Parts.{Parts}
 use Rattle.pt_image.specs.Text.{text_of}
 use Rattle.pt_outside.specs.Files.{Holds, Lacks}
 use Rattle.pt_outside.specs.Told.{ShelfTold}
-use Rattle.pc_verdict.specs.Sources as source
-use Rattle.pc_verdict.specs.Verdicts.{BreaksFirst}
+use Rattle.pc_rules.specs.Sources as source
+use Rattle.pc_rules.specs.Verdicts.{BreaksFirst}
 use Rattle.pretc_run.specs.declared.endings.Ending.{Ending}
 use Rattle.pretc_run.specs.declared.endings.Ending.TheVariants.{Done, Refused, Usage, ReadFault, WantOfMemory, BadImage, BadCert, BadCosts, BadCost, NotAccepted, StoreFault, NoFile}
 use Rattle.pretc_run.specs.Endings.{number_of, line_of}

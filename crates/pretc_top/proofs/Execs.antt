@@ -4,12 +4,12 @@ use Rattle.std.specs.List.{AllByRecursion}
 use Rattle.pt_outside.specs.Told.{ShelfTold}
 use Rattle.pt_image.specs.declared.image.Parts.{Parts}
 use Rattle.pt_trace.specs.Report.{bound_line}
-use Rattle.mb_step.specs.Cells.{Cells, machine}
-use Rattle.mb_step.specs.Tick.{Outcome, Ends, Trapped, Open, tick, IsSafeWithin}
-use Rattle.mb_step.specs.Run.{MachineState, loaded_cells, loaded, seen, after_tick, ticks_from, run_of}
+use Rattle.mb_isa.specs.Cells.{Cells, machine}
+use Rattle.mb_isa.specs.Tick.{Outcome, Ends, Trapped, Open, tick, IsSafeWithin}
+use Rattle.mb_isa.specs.Run.{MachineState, loaded_cells, loaded, seen, after_tick, ticks_from, run_of}
 use Rattle.mb_core.specs.Machine.{Whole, fresh}
-use Rattle.tk_bound.specs.Bounded as bounded
-use Rattle.tk_bound.specs.Bounded.{BoundsRuns, and_after}
+use Rattle.tk_paths.specs.Bounded as bounded
+use Rattle.tk_paths.specs.Bounded.{BoundsRuns, and_after}
 use Rattle.pretc_run.specs.declared.endings.Ending.{Ending}
 use Rattle.pretc_run.specs.Running.{run_lines}
 use Rattle.pretc_run.specs.Reporting.{ReportComes, report_ends, report_breaks}

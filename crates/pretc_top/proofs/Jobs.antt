@@ -8,13 +8,13 @@ use Rattle.pt_image.specs.declared.image.Parts.{Parts}
 use Rattle.pt_trace.specs.Report.{threads_line, bound_line, sum_line, greatest}
 use Rattle.mb_isa.specs.Costs.{unit}
 use Rattle.mb_core.specs.Machine.{Whole, fresh}
-use Rattle.mb_step.specs.Run.{run_of}
-use Rattle.pc_generator.specs.Generated.{generated}
+use Rattle.mb_isa.specs.Run.{run_of}
+use Rattle.pc_print.specs.Generated.{generated}
 use Rattle.pc_grammar.specs.Trees.{Program}
-use Rattle.pc_typed.specs.Typing.{Typing}
+use Rattle.pc_grammar.specs.Typing.{Typing}
 use Rattle.pc_rules.specs.declared.sizes.Sizes.{Sizes}
 use Rattle.pc_rules.specs.Sizes.{AreSizes}
-use Rattle.pc_verdict.specs.Verdicts.{IsAccepted, IsJudgedText}
+use Rattle.pc_rules.specs.Verdicts.{IsAccepted, IsJudgedText}
 use Rattle.tk_cert.specs.declared.CertParts.{CertParts}
 use Rattle.pretc_run.specs.declared.endings.Ending.{Ending}
 use Rattle.pretc_run.specs.declared.endings.Ending.TheVariants.{WantOfMemory}

@@ -2,14 +2,14 @@
 use Rattle.std.proofs.Common.{◌≡◌, ◌↔◌, IsTrue, ℕ, Bool, false, List, Option, Some, None, refl, sym, ap, subst, ◌∙◌, arith}
 use Rattle.pt_trace.specs.Verdict.{yes_line}
 use Rattle.pt_image.specs.declared.Parts.{Parts}
-use Rattle.tk_bound.specs.Walks.{IsCostOf, IsWorst}
-use Rattle.tk_bound.specs.Acceptance.{asks}
-use Rattle.tk_bound.specs.Bounded.{BoundsFreeTicks, BoundsRuns}
+use Rattle.tk_paths.specs.Walks.{IsCostOf, IsWorst}
+use Rattle.tk_paths.specs.Acceptance.{asks}
+use Rattle.tk_paths.specs.Bounded.{BoundsFreeTicks, BoundsRuns}
 use Rattle.tk_cert.specs.declared.CertParts.{CertParts}
 use Rattle.tk_cert.specs.Demands.{Demand, first_failing, AllHold}
-use Rattle.tk_check.specs.declared.Answer.{Answer}
-use Rattle.tk_check.specs.declared.Answer.TheVariants.{Yes, No}
-use Rattle.tk_check.specs.Answers as answers
+use Rattle.tk_judge.specs.declared.Answer.{Answer}
+use Rattle.tk_judge.specs.declared.Answer.TheVariants.{Yes, No}
+use Rattle.tk_judge.specs.Answers as answers
 use Rattle.pretc_run.specs.declared.endings.Ending.{Ending}
 use Rattle.pretc_run.specs.declared.endings.Ending.TheVariants.{Done, NotAccepted}
 use Rattle.pretc_run.specs.Endings.{number_of, line_of}

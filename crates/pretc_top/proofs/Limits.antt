@@ -4,14 +4,14 @@ use Rattle.std.specs.List.{AllByRecursion}
 use Rattle.mb_pfu.specs.declared.TrapKind.TheVariants.{Late}
 use Rattle.mb_pfu.specs.Unit.{State}
 use Rattle.pt_image.specs.declared.image.Parts.{Parts}
-use Rattle.mb_step.specs.Cells.{Cells, machine}
-use Rattle.mb_step.specs.Control.{Control, place_of, tests_on}
-use Rattle.mb_step.specs.Step.{Rules, Stepped, Moves, Rests, Traps, Undecided, step, samples_on}
-use Rattle.mb_step.specs.Tick.{Outcome, Ends, Trapped, Open, after_step, run, tick, base_of, begun, IsSafeWithin}
-use Rattle.mb_step.specs.Run as runs
-use Rattle.mb_step.specs.Run.{MachineState, loaded, loaded_cells, seen, after_tick, ticks_from, run_of}
-use Rattle.tk_bound.specs.Bounded as bounded
-use Rattle.tk_bound.specs.Bounded.{BoundsRuns, and_after}
+use Rattle.mb_isa.specs.Cells.{Cells, machine}
+use Rattle.mb_isa.specs.Control.{Control, place_of, tests_on}
+use Rattle.mb_isa.specs.Step.{Rules, Stepped, Moves, Rests, Traps, Undecided, step, samples_on}
+use Rattle.mb_isa.specs.Tick.{Outcome, Ends, Trapped, Open, after_step, run, tick, base_of, begun, IsSafeWithin}
+use Rattle.mb_isa.specs.Run as runs
+use Rattle.mb_isa.specs.Run.{MachineState, loaded, loaded_cells, seen, after_tick, ticks_from, run_of}
+use Rattle.tk_paths.specs.Bounded as bounded
+use Rattle.tk_paths.specs.Bounded.{BoundsRuns, and_after}
 
 module _ {Data : Type 0} (rules : Rules Data) (image : Parts) (costs : List ℕ) (small large bound : ℕ) (le : small ≤ large) where
   late_is_unsafe : (at charged : ℕ) → IsSafeWithin {Data = Data} bound (Trapped Late at charged) → ⊥

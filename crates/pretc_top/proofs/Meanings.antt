@@ -1,6 +1,6 @@
 -- The report of a program's meaning is what `mean` comes to.
 use Rattle.std.proofs.Common.{ℕ, List, [], ◌∷◌, ◌++◌, Some, refl}
-use Rattle.pc_typed.specs.Typing.{Typing}
+use Rattle.pc_grammar.specs.Typing.{Typing}
 use Rattle.pc_grammar.specs.Trees as grammar
 use Rattle.pc_meaning.specs.Programs.{program_of}
 use Rattle.pretc_run.specs.declared.endings.Ending.TheVariants.{WantOfMemory}

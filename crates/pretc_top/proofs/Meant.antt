@@ -2,11 +2,11 @@
 use Rattle.std.proofs.Common.{◌≡◌, ℕ, ℤ, List, [], ◌∷◌, ◌++◌, map, refl, ap, ◌∙◌}
 use Rattle.mb_pfu.specs.declared.TrapKind.{TrapKind}
 use Rattle.pt_image.specs.declared.image.Parts.{Parts}
-use Rattle.mb_step.specs.Run.{Ticked, Ends, Trapped}
+use Rattle.mb_isa.specs.Run.{Ticked, Ends, Trapped}
 use Rattle.pc_meaning.specs.Tree.{Program}
 use Rattle.pc_meaning.specs.Runs.{Moment, outputs_at}
 use Rattle.pretc_run.specs.Told.{told, AllEnded}
-use Rattle.pc_flows.specs.Meant.{EachMeans}
+use Rattle.pc_lower.specs.Meant.{EachMeans}
 
 pub each_ended : (p : Program) (image : Parts) (ms : List Moment) (os : List Ticked) → EachMeans p image ms os → AllEnded os
 each_ended p image [] [] h = tt

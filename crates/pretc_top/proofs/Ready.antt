@@ -9,8 +9,8 @@ use Rattle.mb_isa.specs.Costs.{IsCosts, unit}
 use Rattle.pt_image.specs.declared.image.Parts.{Parts}
 use Rattle.pt_trace.specs.Given.{HasRead}
 use Rattle.mb_core.specs.Machine.{Whole, fresh}
-use Rattle.mb_step.specs.Run.{run_of}
-use Rattle.pc_typed.specs.Typing.{Typing}
+use Rattle.mb_isa.specs.Run.{run_of}
+use Rattle.pc_grammar.specs.Typing.{Typing}
 use Rattle.pc_meaning.specs.Tree.{Program}
 use Rattle.pc_meaning.specs.Programs.{program_of}
 use Rattle.pc_meaning.specs.Runs.{before_ticks, moments_from}
@@ -20,8 +20,8 @@ use Rattle.pretc_run.specs.Told.{AllEnded}
 use Rattle.pretc_run.specs.Running.{RunEnds, run_done, run_bad, run_fault, run_trapped}
 use Rattle.pretc_run.specs.Reporting.{ReportComes, report_ends, report_breaks}
 use Rattle.pretc_top.specs.declared.commands.Command.TheVariants.{Go}
-use Rattle.pc_region.specs.Runs.{IsRow}
-use Rattle.pc_flows.specs.Meant.{EachMeans}
+use Rattle.pc_lower.specs.Runs.{IsRow}
+use Rattle.pc_lower.specs.Meant.{EachMeans}
 use Rattle.pretc_top.specs.Outside.{Outside}
 use Rattle.pretc_top.specs.Go.{cycles_most, IsBuilt, IsMade, IsReady, ShowsMeaning, go_lines}
 use Rattle.pretc_top.specs.Comes.{Comes, ran, broke, go_ran, go_broke}

@@ -14,7 +14,7 @@ use Rattle.pc_meaning.specs.Programs.{program_of}
 use Rattle.pretc_run.specs.Meant.{width_of, meant_lines, MeanEnds, mean_done, mean_bad, mean_fault, mean_lacks, IsNextMeant, next_meant, next_end}
 use Rattle.mb_pfu.specs.declared.TrapKind.{TrapKind}
 use Rattle.mb_pfu.specs.declared.TrapKind.TheVariants.{BadAddress}
-use Rattle.mb_step.specs.Run.{Ticked, Trapped, run_of}
+use Rattle.mb_isa.specs.Run.{Ticked, Trapped, run_of}
 use Rattle.pretc_top.specs.Exec.{IsApproved, exec_lines, AllTrapSafely, ExecRan, ExecBroke, in_the_bound, behind_the_bound}
 use Rattle.pretc_top.specs.Mean.{IsMeant, MeanRan, MeanBroke}
 use Rattle.pretc_top.specs.Outside.{Outside}

@@ -4,8 +4,8 @@ use Rattle.pt_outside.specs.Files.{Holds}
 use Rattle.pt_outside.specs.Told.{ShelfTold}
 use Rattle.pt_base.specs.declared.Refusal.{Refusal}
 use Rattle.pt_base.specs.declared.Refusal.TheVariants.{Broken, Memory}
-use Rattle.pc_verdict.specs.Sources.{Breaks, IsRead}
-use Rattle.pc_verdict.specs.Verdicts.{BreaksFirst, IsJudgedText}
+use Rattle.pc_rules.specs.Sources.{Breaks, IsRead}
+use Rattle.pc_rules.specs.Verdicts.{BreaksFirst, IsJudgedText}
 use Rattle.pretc_run.specs.declared.endings.Ending.{Ending}
 use Rattle.pretc_top.specs.Refusing.{ending_of}
 use Rattle.pretc_top.specs.Loading.{source_most, IsAsBefore, ProgramFails, program_refused, program_memory}

@@ -6,15 +6,15 @@ use Rattle.mb_isa.specs.Costs.{IsCosts}
 use Rattle.pt_outside.specs.Told.{SourceTold}
 use Rattle.pt_image.specs.declared.image.Parts.{Parts}
 use Rattle.pt_trace.specs.Given.{HasRead}
-use Rattle.mb_step.specs.Run.{Ticked, run_of}
-use Rattle.pc_typed.specs.Typing.{Typing}
+use Rattle.mb_isa.specs.Run.{Ticked, run_of}
+use Rattle.pc_grammar.specs.Typing.{Typing}
 use Rattle.pc_meaning.specs.Tree.{Program}
 use Rattle.pc_meaning.specs.Programs.{program_of}
 use Rattle.pc_meaning.specs.Runs.{before_ticks, moments_from}
-use Rattle.pc_region.specs.Runs.{IsRow}
-use Rattle.pc_flows.specs.Meant.{EachMeans}
+use Rattle.pc_lower.specs.Runs.{IsRow}
+use Rattle.pc_lower.specs.Meant.{EachMeans}
 use Rattle.pc_compile.specs.Compiled.{Compiles}
-use Rattle.tk_bound.specs.Bounded.{BoundsRuns}
+use Rattle.tk_paths.specs.Bounded.{BoundsRuns}
 use Rattle.pretc_run.specs.declared.endings.Ending.{Ending}
 use Rattle.pretc_run.specs.Endings.{number_of}
 use Rattle.pretc_run.specs.Told.{AllEnded}

@@ -5,18 +5,18 @@ use Rattle.pt_outside.specs.Files.{Files, Holds, Lacks}
 use Rattle.pt_outside.specs.Told.{SinkTold}
 use Rattle.pt_image.specs.declared.Parts.{Parts}
 use Rattle.tk_cert.specs.declared.CertParts.{CertParts}
-use Rattle.tk_bound.specs.Bounded.{BoundsFreeTicks, BoundsRuns}
+use Rattle.tk_paths.specs.Bounded.{BoundsFreeTicks, BoundsRuns}
 use Rattle.pt_base.specs.declared.Rule.{Rule}
 use Rattle.pt_base.specs.declared.Span.{Span}
-use Rattle.pc_verdict.specs.Sources.{Breaks}
-use Rattle.pc_verdict.specs.Verdicts.{BreaksFirst}
-use Rattle.pc_generator.specs.Generated.{generated}
+use Rattle.pc_rules.specs.Sources.{Breaks}
+use Rattle.pc_rules.specs.Verdicts.{BreaksFirst}
+use Rattle.pc_print.specs.Generated.{generated}
 use Rattle.pretc_run.specs.Writing.{Wrote}
 use Rattle.pretc_top.specs.declared.commands.Command.{Command}
 use Rattle.pretc_top.specs.declared.commands.Command.TheVariants.{Go, Run, Check, Print, Rules, Mean, Job, Exec}
 use Rattle.pretc_top.specs.Outside.{Outside, IsLater}
 use Rattle.pc_grammar.specs.Trees.{Program}
-use Rattle.pc_typed.specs.Typing.{Typing}
+use Rattle.pc_grammar.specs.Typing.{Typing}
 use Rattle.pretc_top.specs.Loading.{source_most, IsTaken}
 use Rattle.pretc_top.specs.Check.{image_most, cert_most, costs_most, unit_word, IsImageText, IsCertText, CostsHeld, CostsRead, CostsFail}
 use Rattle.pretc_run.specs.declared.endings.Ending.{Ending}

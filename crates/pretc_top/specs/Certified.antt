@@ -2,14 +2,14 @@
 use Rattle.std.specs.Prelude.{ℕ, ℤ, ◌≤◌, List}
 use Rattle.std.specs.List.{AllByRecursion}
 use Rattle.mb_isa.specs.Costs.{IsCosts}
-use Rattle.mb_step.specs.Run.{run_of}
+use Rattle.mb_isa.specs.Run.{run_of}
 use Rattle.pt_image.specs.declared.image.Parts.{Parts}
 use Rattle.pc_meaning.specs.Tree.{Program}
 use Rattle.pc_meaning.specs.Programs.{program_of}
 use Rattle.pc_meaning.specs.Runs.{before_ticks, moments_from}
-use Rattle.pc_region.specs.Runs.{IsRow}
-use Rattle.pc_flows.specs.Meant.{EachMeans}
-use Rattle.pc_typed.specs.Typing.{Typing}
+use Rattle.pc_lower.specs.Runs.{IsRow}
+use Rattle.pc_lower.specs.Meant.{EachMeans}
+use Rattle.pc_grammar.specs.Typing.{Typing}
 use Rattle.pc_compile.specs.Compiled.{Compiles}
 use Rattle.tk_cert.specs.declared.CertParts.{CertParts}
 use Rattle.tk_cert.specs.Form.{IsInForm}

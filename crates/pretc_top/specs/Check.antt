@@ -1,6 +1,6 @@
 -- What `check` comes to: docs/commands.md, "check".
 use Rattle.std.specs.Prelude.{◌≡◌, ◌≢◌, ◌↔◌, ℕ, Bool, IsTrue, List, [], ◌∷◌, codes, Option, Some, None, Ok, Err}
-use Rattle.pt_lines.specs.Forms.{IsFault}
+use Rattle.pt_base.specs.Forms.{IsFault}
 use Rattle.pt_outside.specs.Files.{Files, Holds}
 use Rattle.pt_outside.specs.Told.{ShelfTold}
 use Rattle.pt_trace.specs.Verdict.{yes_line}
@@ -13,11 +13,11 @@ use Rattle.tk_cert.specs.declared.CertParts.{CertParts}
 use Rattle.tk_cert.specs.Form.{IsInForm, cert_form}
 use Rattle.tk_cert.specs.Text as cert_file
 use Rattle.tk_cert.specs.Demands.{Demand, first_failing, AllHold}
-use Rattle.tk_bound.specs.Acceptance.{asks}
-use Rattle.tk_bound.specs.Bounded.{BoundsFreeTicks, BoundsRuns}
-use Rattle.tk_bound.specs.Walks.{IsCostOf, IsWorst}
-use Rattle.tk_costs.specs.declared.reading.CostFault.TheVariants.{Form, Missing, Range, Unknown}
-use Rattle.tk_costs.specs.Reading.{Reads}
+use Rattle.tk_paths.specs.Acceptance.{asks}
+use Rattle.tk_paths.specs.Bounded.{BoundsFreeTicks, BoundsRuns}
+use Rattle.tk_paths.specs.Walks.{IsCostOf, IsWorst}
+use Rattle.tk_cert.specs.declared.costs.CostFault.TheVariants.{Form, Missing, Range, Unknown}
+use Rattle.tk_cert.specs.CostTables.{Reads}
 use Rattle.mb_isa.specs.declared.costs.Class.{Class}
 use Rattle.pretc_run.specs.declared.endings.Ending.{Ending}
 use Rattle.pretc_run.specs.declared.endings.Ending.TheVariants.{Done, WantOfMemory, BadImage, BadCert, BadCosts, BadCost, NotAccepted}

@@ -1,8 +1,8 @@
 -- What a call comes to, whatever its words: docs/commands.md.
 use Rattle.std.specs.Prelude.{◌≡◌, ℕ, List, [], ◌∷◌, Option, Some, None}
 use Rattle.pt_outside.specs.Told.{SinkTold}
-use Rattle.pc_verdict.specs.Sources as source
-use Rattle.pc_verdict.specs.Verdicts.{BreaksFirst}
+use Rattle.pc_rules.specs.Sources as source
+use Rattle.pc_rules.specs.Verdicts.{BreaksFirst}
 use Rattle.pretc_run.specs.declared.endings.Ending.{Ending}
 use Rattle.pretc_run.specs.declared.endings.Ending.TheVariants.{Usage}
 use Rattle.pretc_run.specs.Endings.{number_of, line_of, write_fault}

@@ -6,12 +6,12 @@ use Rattle.pt_image.specs.Ranges.{IsImage}
 use Rattle.pt_trace.specs.Report.{bound_line}
 use Rattle.mb_pfu.specs.declared.TrapKind.{TrapKind}
 use Rattle.mb_pfu.specs.declared.TrapKind.TheVariants.{BadAddress}
-use Rattle.mb_step.specs.Run.{Ticked, Ends, Trapped, run_of}
+use Rattle.mb_isa.specs.Run.{Ticked, Ends, Trapped, run_of}
 use Rattle.mb_core.specs.Machine.{Whole, fresh}
 use Rattle.tk_cert.specs.declared.CertParts.{CertParts}
 use Rattle.tk_cert.specs.Demands.{Demand, first_failing, AllHold}
-use Rattle.tk_bound.specs.Acceptance.{asks}
-use Rattle.tk_bound.specs.Bounded.{BoundsRuns}
+use Rattle.tk_paths.specs.Acceptance.{asks}
+use Rattle.tk_paths.specs.Bounded.{BoundsRuns}
 use Rattle.pretc_run.specs.declared.endings.Ending.{Ending}
 use Rattle.pretc_run.specs.declared.endings.Ending.TheVariants.{WantOfMemory}
 use Rattle.pretc_run.specs.Endings.{write_fault}

@@ -7,10 +7,10 @@ use Rattle.pt_image.specs.declared.image.Parts.{Parts}
 use Rattle.pt_image.specs.Text.{text_of}
 use Rattle.mb_isa.specs.Costs.{unit}
 use Rattle.mb_core.specs.Machine.{Whole, fresh}
-use Rattle.mb_step.specs.Run.{run_of}
+use Rattle.mb_isa.specs.Run.{run_of}
 use Rattle.pc_grammar.specs.Trees.{Program}
-use Rattle.pc_typed.specs.Typing.{Typing}
-use Rattle.pc_verdict.specs.Verdicts.{BreaksFirst}
+use Rattle.pc_grammar.specs.Typing.{Typing}
+use Rattle.pc_rules.specs.Verdicts.{BreaksFirst}
 use Rattle.pc_meaning.specs.Programs.{program_of}
 use Rattle.pc_meaning.specs.Runs.{meaning_of}
 use Rattle.pc_compile.specs.Compiled.{Compiles}

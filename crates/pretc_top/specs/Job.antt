@@ -5,11 +5,11 @@ use Rattle.pt_base.specs.declared.Span.{Span}
 use Rattle.pt_image.specs.declared.image.Parts.{Parts}
 use Rattle.pt_trace.specs.Report.{threads_line, bound_line, sum_line, greatest}
 use Rattle.mb_isa.specs.Costs.{unit}
-use Rattle.mb_step.specs.Run.{run_of}
+use Rattle.mb_isa.specs.Run.{run_of}
 use Rattle.pc_grammar.specs.Trees.{Program}
-use Rattle.pc_typed.specs.Typing.{Typing}
-use Rattle.pc_verdict.specs.Verdicts.{IsAccepted, BreaksFirst}
-use Rattle.pc_generator.specs.Generated.{generated}
+use Rattle.pc_grammar.specs.Typing.{Typing}
+use Rattle.pc_rules.specs.Verdicts.{IsAccepted, BreaksFirst}
+use Rattle.pc_print.specs.Generated.{generated}
 use Rattle.tk_cert.specs.declared.CertParts.{CertParts}
 use Rattle.pretc_run.specs.declared.endings.Ending.{Ending}
 use Rattle.pretc_run.specs.declared.endings.Ending.TheVariants.{Done, Refused, WantOfMemory}

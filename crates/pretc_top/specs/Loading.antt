@@ -6,9 +6,9 @@ use Rattle.pt_outside.specs.Counts.{Rose}
 use Rattle.pt_outside.specs.Files.{Files, KeepsFiles, Holds, Lacks}
 use Rattle.pt_outside.specs.Told.{ShelfTold}
 use Rattle.pc_grammar.specs.Trees.{Program}
-use Rattle.pc_verdict.specs.Sources.{IsSource}
-use Rattle.pc_typed.specs.Typing.{Typing}
-use Rattle.pc_verdict.specs.Verdicts.{IsAccepted}
+use Rattle.pc_rules.specs.Sources.{IsSource}
+use Rattle.pc_grammar.specs.Typing.{Typing}
+use Rattle.pc_rules.specs.Verdicts.{IsAccepted}
 use Rattle.pretc_run.specs.declared.endings.Ending.{Ending}
 use Rattle.pretc_run.specs.declared.endings.Ending.TheVariants.{Refused, ReadFault, WantOfMemory, NoFile}
 

@@ -1,7 +1,7 @@
 -- What a call of `pretc mean` comes to once its program is taken: docs/commands.md, "mean".
 use Rattle.std.specs.Prelude.{◌≡◌, ℕ, ℤ, List, [], ◌∷◌, ◌++◌}
 use Rattle.pc_grammar.specs.Trees as grammar
-use Rattle.pc_typed.specs.Typing.{Typing}
+use Rattle.pc_grammar.specs.Typing.{Typing}
 use Rattle.pc_meaning.specs.Programs.{program_of}
 use Rattle.pretc_run.specs.declared.endings.Ending.{Ending}
 use Rattle.pretc_run.specs.Meant.{meant_lines, MeanEnds, MeanBreaks}

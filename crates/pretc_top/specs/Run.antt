@@ -8,11 +8,11 @@ use Rattle.pt_image.specs.declared.image.Parts.{Parts}
 use Rattle.pt_image.specs.Ranges.{IsImage}
 use Rattle.pt_image.specs.Text as image_file
 use Rattle.pt_trace.specs.Report.{bound_line}
-use Rattle.mb_step.specs.Run.{run_of}
+use Rattle.mb_isa.specs.Run.{run_of}
 use Rattle.mb_core.specs.Machine.{Whole, fresh}
 use Rattle.pc_grammar.specs.Trees.{Program}
-use Rattle.pc_typed.specs.Typing.{Typing}
-use Rattle.pc_verdict.specs.Verdicts.{IsAccepted, BreaksFirst}
+use Rattle.pc_grammar.specs.Typing.{Typing}
+use Rattle.pc_rules.specs.Verdicts.{IsAccepted, BreaksFirst}
 use Rattle.pc_meaning.specs.Programs.{program_of}
 use Rattle.pc_meaning.specs.Runs.{meaning_of}
 use Rattle.tk_cert.specs.declared.CertParts.{CertParts}

@@ -9,12 +9,12 @@ use Rattle.pt_trace.specs.Trace.{lines}
 use Rattle.pt_trace.specs.Next.{bytes_of}
 use Rattle.pt_trace.specs.Accepted.{accepted_line}
 use Rattle.pc_grammar.specs.Trees.{Program}
-use Rattle.pc_verdict.specs.Sources.{IsSource}
+use Rattle.pc_rules.specs.Sources.{IsSource}
 use Rattle.pc_print.specs.Canonical.{program_text}
-use Rattle.pc_typed.specs.Typing.{Typing}
+use Rattle.pc_grammar.specs.Typing.{Typing}
 use Rattle.pc_rules.specs.Weights.{program_weight, program_passage}
-use Rattle.pc_verdict.specs.Verdicts.{IsAccepted}
-use Rattle.pc_generator.specs.Generated.{generated}
+use Rattle.pc_rules.specs.Verdicts.{IsAccepted}
+use Rattle.pc_print.specs.Generated.{generated}
 use Rattle.pretc_run.specs.declared.endings.Ending.{Ending}
 use Rattle.pretc_run.specs.declared.endings.Ending.TheVariants.{Done, WantOfMemory}
 use Rattle.pretc_run.specs.Endings.{number_of, line_of}

@@ -6,7 +6,7 @@ ghost use Rattle.pretc_top.specs.Certified.{IsCertified};
 
 use mb_isa::{Class, Costs};
 use pc_compile::compile;
-use pc_typed::Typed;
+use pc_grammar::Typed;
 use pretc_run::Ending;
 use pt_image::Image;
 use std::alloc::Global;

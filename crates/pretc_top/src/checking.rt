@@ -13,9 +13,8 @@ use pt_image::{Image, ImageFault};
 use pt_outside::{Shelf, Sink};
 use pt_trace::{LineBuffer, yes_line};
 use std::alloc::Global;
-use tk_cert::{Cert, CertFault};
-use tk_check::{Answer, check};
-use tk_costs::{CostFault, read_costs};
+use tk_cert::{Cert, CertFault, CostFault, read_costs};
+use tk_judge::{Answer, check};
 
 // One byte more than an image file may have, than a certificate file may have, and than a table of costs may have.
 const IMAGE_MOST: u64 = 16777217;

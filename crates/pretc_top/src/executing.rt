@@ -14,7 +14,7 @@ use pt_image::Image;
 use pt_outside::{Shelf, Sink, Source};
 use pt_trace::{LineBuffer, bound_line};
 use std::alloc::Global;
-use tk_check::{Answer, check};
+use tk_judge::{Answer, check};
 
 // An image, the costs, and the bound that was accepted.
 #[derive(Drop)]

@@ -3,7 +3,7 @@ ghost use Rattle.pretc_top.specs.Says.{GenEnds};
 ghost use Rattle.pretc_top.specs.Comes.{Concludes};
 
 use crate::printing::finish_lines;
-use pc_generator::generate;
+use pc_print::generate;
 use pretc_run::{Ending, finish};
 use pt_outside::Sink;
 use std::alloc::Global;

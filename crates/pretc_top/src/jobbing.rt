@@ -1,6 +1,6 @@
 ghost use Rattle.std.specs.Prelude.{◌≡◌, ◌∷◌, [], IfOk, IfErr, length};
 ghost use Rattle.mb_isa.specs.Costs.{unit};
-ghost use Rattle.mb_step.specs.Run.{run_of};
+ghost use Rattle.mb_isa.specs.Run.{run_of};
 ghost use Rattle.pt_trace.specs.Report as report;
 ghost use Rattle.pt_trace.specs.Report.{greatest};
 ghost use Rattle.pretc_run.specs.Told.{AllEnded};
@@ -15,8 +15,8 @@ use crate::certifying::certify;
 use crate::executing::load_machine;
 use crate::stages::ending_of;
 use mb_isa::unit_costs;
-use pc_generator::generate;
-use pc_verdict::judged;
+use pc_print::generate;
+use pc_rules::judged;
 use pretc_run::{COUNTED_TICKS, Ending, Totals, WRITE_FAULT, close, finish, push_line, sum_ticks};
 use pt_base::Memory;
 use pt_image::Image;

@@ -1,5 +1,5 @@
 ghost use Rattle.std.specs.Prelude.{◌≡◌, ◌<◌, ◌≤◌, ◌+◌, ◌∷◌, ◌++◌, ℕ, List, length, drop, take, map, IfOk, IfErr, OnOk, OnErr};
-ghost use Rattle.pc_verdict.specs.Sources.{Breaks};
+ghost use Rattle.pc_rules.specs.Sources.{Breaks};
 ghost use Rattle.pt_trace.specs.Next.{line_feed};
 ghost use Rattle.pretc_run.specs.Writing.{Answers};
 ghost use Rattle.pretc_top.specs.Loading.{IsLoaded, IsAsBefore, ProgramFails};

@@ -1,5 +1,5 @@
 ghost use Rattle.std.specs.Prelude.{◌∷◌, []};
-ghost use Rattle.pc_verdict.specs.Verdicts.{BreaksFirst};
+ghost use Rattle.pc_rules.specs.Verdicts.{BreaksFirst};
 ghost use Rattle.pretc_top.specs.Says.{SaysEnds, IsRuled};
 ghost use Rattle.pretc_top.specs.Comes.{Concludes};
 

@@ -9,7 +9,7 @@ use crate::checking::{costs_of, load_costs};
 use crate::executing::{Bounded, load_machine, run};
 use crate::stages::{SOURCE_MOST, ending_of, load_text, store_cert, store_image};
 use mb_isa::Costs;
-use pc_verdict::judged;
+use pc_rules::judged;
 use pretc_run::{Ending, finish};
 use pt_base::Text;
 use pt_outside::{Shelf, Sink, Source};

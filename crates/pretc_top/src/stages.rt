@@ -3,15 +3,15 @@ ghost use Rattle.pt_outside.specs.Files.{Holds};
 ghost use Rattle.pt_image.specs.Text.{text_of};
 ghost use Rattle.tk_cert.specs.Text as cert_file;
 ghost use Rattle.pc_rules.specs.Sizes.{AreSizes};
-ghost use Rattle.pc_verdict.specs.Sources.{Breaks};
-ghost use Rattle.pc_verdict.specs.Verdicts.{BreaksFirst};
+ghost use Rattle.pc_rules.specs.Sources.{Breaks};
+ghost use Rattle.pc_rules.specs.Verdicts.{BreaksFirst};
 ghost use Rattle.pretc_top.specs.Loading.{IsAsBefore, LoadFails, ProgramFails, IsLoaded, IsTaken};
 ghost use Rattle.pretc_top.specs.Refusing as spec;
 ghost use Rattle.pretc_top.specs.Go.{IsBuilt, IsStored, StoreFails};
 
 use pc_compile::compile;
 use pc_grammar::Program;
-use pc_verdict::{Accepted, judged, source_of};
+use pc_rules::{Accepted, judged, source_of};
 use pretc_run::Ending;
 use pt_base::{Refusal, Text};
 use pt_image::Image;

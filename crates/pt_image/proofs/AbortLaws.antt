@@ -1,10 +1,10 @@
 -- Abort lines: what is read of them is spelled so, and what is spelled so is read.
 use Rattle.std.proofs.Common.{◌≡◌, ℕ, ◌^◌, ◌<◌, ◌≤◌, Bool, true, false, cond, eqb, List, [], ◌∷◌, ◌++◌, Some, None, refl, sym, ap, subst, ◌∙◌, append_assoc, inl, inr}
 use Rattle.std.proofs.lemmas.Bool.{eqb-true}
-use Rattle.pt_lines.specs.Spelling.{number_text}
-use Rattle.pt_lines.specs.Reading.{◌>>=◌, past_at, number_then_at}
-use Rattle.pt_lines.proofs.Laws.{Reads, Anything, bind_some, some_is, test_some, chosen, past_found}
-use Rattle.pt_lines.proofs.FieldLaws.{number_then_reads}
+use Rattle.pt_base.specs.Spelling.{number_text}
+use Rattle.pt_base.specs.Reading.{◌>>=◌, past_at, number_then_at}
+use Rattle.pt_base.proofs.Laws.{Reads, Anything, bind_some, some_is, test_some, chosen, past_found}
+use Rattle.pt_base.proofs.FieldLaws.{number_then_reads}
 use Rattle.pt_image.specs.declared.image.AbortLine.{AbortLine}
 use Rattle.pt_image.specs.Text.{strength, abort_text}
 use Rattle.pt_image.specs.Reading.{strength_at, abort_at}

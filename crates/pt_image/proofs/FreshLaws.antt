@@ -3,7 +3,7 @@ use Rattle.std.proofs.Common.{◌≡◌, ℕ, ◌<◌, Bool, true, false, eqb, L
 use Rattle.std.specs.List.{AllByRecursion, IsDistinct}
 use Rattle.std.proofs.lemmas.Bool.{eqb-false, ne_eqb}
 use Rattle.std.proofs.lemmas.List.{get_or-set_same, get_or-set_other, length-set, length-replicate, get_or-replicate}
-use Rattle.pt_lines.proofs.Laws.{chosen}
+use Rattle.pt_base.proofs.Laws.{chosen}
 use Rattle.pt_image.specs.declared.image.Point.{Point}
 use Rattle.pt_image.specs.Ranges.{places_of}
 use Rattle.pt_image.specs.Reading.{fresh}

@@ -1,11 +1,11 @@
 -- What is read of each group of lines is spelled so and within its ranges, and what is spelled so is read.
 use Rattle.std.proofs.Common.{◌≡◌, ℕ, ◌^◌, ◌<◌, ◌≤◌, ℤ, false, cond, eqb, List, [], ◌∷◌, ◌++◌, length, Some, None, refl, subst, arith, lit≤, codes, replicate, w32, FitsSigned}
 use Rattle.std.specs.List.{AllByRecursion, IsDistinct}
-use Rattle.pt_lines.specs.Spelling.{number_text, word_text, signed_text, lines_text}
-use Rattle.pt_lines.specs.Reading.{Reader, number_then_at, word_line_at, signed_line_at, lines_at}
-use Rattle.pt_lines.proofs.Laws.{Reads, Anything, bind_some, some_is, test_some}
-use Rattle.pt_lines.proofs.FieldLaws.{Below, number_then_reads, AreLines, lines_read}
-use Rattle.pt_lines.proofs.WordLaws.{IsWord, word_lines_read, signed_lines_read}
+use Rattle.pt_base.specs.Spelling.{number_text, word_text, signed_text, lines_text}
+use Rattle.pt_base.specs.Reading.{Reader, number_then_at, word_line_at, signed_line_at, lines_at}
+use Rattle.pt_base.proofs.Laws.{Reads, Anything, bind_some, some_is, test_some}
+use Rattle.pt_base.proofs.FieldLaws.{Below, number_then_reads, AreLines, lines_read}
+use Rattle.pt_base.proofs.WordLaws.{IsWord, word_lines_read, signed_lines_read}
 use Rattle.pt_image.specs.declared.image.AbortLine.{AbortLine}
 use Rattle.pt_image.specs.declared.image.Point.{Point}
 use Rattle.pt_image.specs.Ranges.{places_of}

@@ -1,8 +1,8 @@
 -- The image's groups of lines as groups of its form.
 use Rattle.std.proofs.Common.{◌≡◌, ℕ, ◌^◌, ◌≤◌, ℤ, cond, leb, List, [], ◌++◌, length, take, refl, append_assoc, arith, lit≤, codes}
 use Rattle.std.proofs.lemmas.List.{append-nil}
-use Rattle.pt_lines.specs.Spelling.{joined, number_text, word_text, signed_text, lines_text}
-use Rattle.pt_lines.proofs.FormLaws.{Group}
+use Rattle.pt_base.specs.Spelling.{joined, number_text, word_text, signed_text, lines_text}
+use Rattle.pt_base.proofs.FormLaws.{Group}
 use Rattle.pt_image.specs.declared.image.AbortLine.{AbortLine}
 use Rattle.pt_image.specs.declared.image.Point.{Point}
 use Rattle.pt_image.specs.declared.image.Parts.{Parts}

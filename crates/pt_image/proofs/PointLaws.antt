@@ -2,10 +2,10 @@
 use Rattle.std.proofs.Common.{◌≡◌, ℕ, ◌^◌, ◌<◌, ◌≤◌, List, [], ◌∷◌, ◌++◌, length, Some, refl, sym, ap, subst, ◌∙◌, append_assoc, arith, All, lit≤}
 use Rattle.std.specs.List.{AllByRecursion}
 use Rattle.std.proofs.lemmas.List.Elements.{All-from_recursion}
-use Rattle.pt_lines.specs.Spelling.{number_text, numbers_text}
-use Rattle.pt_lines.specs.Reading.{◌>>=◌, number_then_at, numbers_at, many_at}
-use Rattle.pt_lines.proofs.Laws.{Reads, Anything, bind_some, some_is, many_found}
-use Rattle.pt_lines.proofs.FieldLaws.{Below, number_then_reads, numbers_read}
+use Rattle.pt_base.specs.Spelling.{number_text, numbers_text}
+use Rattle.pt_base.specs.Reading.{◌>>=◌, number_then_at, numbers_at, many_at}
+use Rattle.pt_base.proofs.Laws.{Reads, Anything, bind_some, some_is, many_found}
+use Rattle.pt_base.proofs.FieldLaws.{Below, number_then_reads, numbers_read}
 use Rattle.pt_image.specs.declared.image.Point.{Point}
 use Rattle.pt_image.specs.Text.{point_text}
 use Rattle.pt_image.specs.Reading.{point_at}

@@ -3,10 +3,10 @@ use Rattle.std.proofs.Common.{◌≡◌, ℕ, ◌+◌, ◌*◌, ◌≤◌, List,
 use Rattle.std.specs.List.{AllByRecursion}
 use Rattle.std.proofs.lemmas.List.{append-nil, length-append}
 use Rattle.std.proofs.Math.ListN.{drop_of_length-le}
-use Rattle.pt_lines.specs.Spelling.{joined, number_text, numbers_text, word_text, signed_text, lines_text}
-use Rattle.pt_lines.specs.Forms.{Begins, IsFault}
-use Rattle.pt_lines.proofs.Lengths.{Small, Medium, number_short, numbers_short, word_short, signed_short, lines_short}
-use Rattle.pt_lines.proofs.FormLaws.{Known, Outcome, whole_begins}
+use Rattle.pt_base.specs.Spelling.{joined, number_text, numbers_text, word_text, signed_text, lines_text}
+use Rattle.pt_base.specs.Forms.{Begins, IsFault}
+use Rattle.pt_base.proofs.Lengths.{Small, Medium, number_short, numbers_short, word_short, signed_short, lines_short}
+use Rattle.pt_base.proofs.FormLaws.{Known, Outcome, whole_begins}
 use Rattle.pt_image.specs.declared.fault.ImageFault.{ImageFault}
 use Rattle.pt_image.specs.declared.fault.ImageFault.TheVariants.{Form, Memory}
 use Rattle.pt_image.specs.declared.image.AbortLine.{AbortLine}

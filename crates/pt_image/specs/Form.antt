@@ -3,7 +3,7 @@ use Rattle.std.specs.Prelude.{◌≡◌, ℕ, ◌≤◌, ◌^◌, List, Result, 
 use Rattle.std.specs.List.{AllByRecursion}
 use Rattle.std.specs.Int.{w32}
 use Rattle.std.specs.Int.RustNames.{FitsSigned}
-use Rattle.pt_lines.specs.Forms.{Form, IsFault}
+use Rattle.pt_base.specs.Forms.{Form, IsFault}
 use Rattle.pt_image.specs.declared.fault.ImageFault.{ImageFault}
 use Rattle.pt_image.specs.declared.fault.ImageFault.TheVariants as faults
 use Rattle.pt_image.specs.declared.image.Parts.{Parts}

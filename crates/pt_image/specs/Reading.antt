@@ -1,6 +1,6 @@
 -- What is read of each group of lines at the front of a text, and what follows it.
 use Rattle.std.specs.Prelude.{ℕ, Bool, true, false, ◌==◌, List, [], ◌∷◌, codes, Some, None, if◌then◌else◌, slice_index_or, slice_set, replicate}
-use Rattle.pt_lines.specs.Reading.{◌>>=◌, Reader, past_at, number_then_at, numbers_at, word_line_at, lines_at}
+use Rattle.pt_base.specs.Reading.{◌>>=◌, Reader, past_at, number_then_at, numbers_at, word_line_at, lines_at}
 use Rattle.pt_image.specs.declared.image.AbortLine.{AbortLine}
 use Rattle.pt_image.specs.declared.image.Point.{Point}
 

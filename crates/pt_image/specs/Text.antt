@@ -1,6 +1,6 @@
 -- The one text of an image: docs/files.md, "The image file".
 use Rattle.std.specs.Prelude.{ℕ, Bool, true, false, List, [], ◌∷◌, ◌++◌, codes}
-use Rattle.pt_lines.specs.Spelling.{joined, number_text, numbers_text, word_text, signed_text, lines_text}
+use Rattle.pt_base.specs.Spelling.{joined, number_text, numbers_text, word_text, signed_text, lines_text}
 use Rattle.pt_image.specs.declared.image.AbortLine.{AbortLine}
 use Rattle.pt_image.specs.declared.image.Point.{Point}
 use Rattle.pt_image.specs.declared.image.Parts.{Parts}

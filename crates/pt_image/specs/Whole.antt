@@ -1,9 +1,9 @@
 -- What is read of a whole text, or the number of the first group of lines that is at fault.
 use Rattle.std.specs.Prelude.{◌≡◌, ℕ, ℤ, List, [], ◌∷◌, length, nat_lt, codes, Option, None, Result, Ok, Err, if◌then◌else◌}
-use Rattle.pt_lines.specs.Steps.{◌>>=◌, numbered}
-use Rattle.pt_lines.specs.Reading.{Reader, past_all_at, signed_line_at, lines_at}
-use Rattle.pt_lines.specs.declared.fault.Unread.{Unread}
-use Rattle.pt_lines.specs.declared.fault.Unread.TheVariants as unread
+use Rattle.pt_base.specs.Steps.{◌>>=◌, numbered}
+use Rattle.pt_base.specs.Reading.{Reader, past_all_at, signed_line_at, lines_at}
+use Rattle.pt_base.specs.declared.fault.Unread.{Unread}
+use Rattle.pt_base.specs.declared.fault.Unread.TheVariants as unread
 use Rattle.pt_image.specs.declared.fault.ImageFault.{ImageFault}
 use Rattle.pt_image.specs.declared.fault.ImageFault.TheVariants.{Form, Memory}
 use Rattle.pt_image.specs.declared.image.Parts.{Parts}

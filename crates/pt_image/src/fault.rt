@@ -1,7 +1,7 @@
 ghost use Rattle.std.specs.Prelude.{◌≡◌};
 ghost use Rattle.pt_image.specs.Whole.{fault_of};
 
-use pt_lines::Unread;
+use pt_base::Unread;
 
 /// Why a text is not read as an image.
 #[derive(Clone, Copy, Debug, PartialEq, Eq)]

@@ -1,11 +1,10 @@
 ghost use Rattle.std.specs.Prelude.{◌≡◌, ◌≤◌, ◌<◌, ◌^◌, length, false, replicate, IfOk};
 ghost use Rattle.std.specs.List.{All, AllByRecursion};
-ghost use Rattle.pt_lines.specs.Reading.{Gives, many_at};
+ghost use Rattle.pt_base.specs.Reading.{Gives, many_at};
 ghost use Rattle.pt_image.specs.Reading.{point_at, fresh, points_at};
 
 use crate::image::Point;
-use pt_base::Many;
-use pt_lines::{Unread, count_line, number_then, numbers};
+use pt_base::{Many, Unread, count_line, number_then, numbers};
 use std::alloc::{AllocError, Global};
 
 // The listed pause or fork at the front, and what follows it.
@@ -73,7 +72,7 @@ fn are_fresh(points: &[Point], seen: &mut [bool]) -> bool
 }
 
 /// The listed pauses or forks at the front, no two of them at one place, and what follows them.
-#[tactic(auto, using(crate::proofs::PointLaws::within), unfolding(crate::specs::Reading::points_at, pt_lines::specs::Reading::lines_at))]
+#[tactic(auto, using(crate::proofs::PointLaws::within), unfolding(crate::specs::Reading::points_at, pt_base::specs::Reading::lines_at))]
 pub fn points_of<'a>(
     alloc: Global,
     bytes: &'a [u8],

@@ -9,8 +9,7 @@ use crate::fault::{ImageFault, fault};
 use crate::image::{Image, Parts};
 use crate::points::points_of;
 use crate::reading::{aborts_of, code_of, memory_of, signals_of, slots_of};
-use pt_base::{Many, Text};
-use pt_lines::past_all;
+use pt_base::{Many, Text, past_all};
 use std::alloc::Global;
 
 // What follows the heading of a text that isn't too long.

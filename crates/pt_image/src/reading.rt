@@ -1,14 +1,14 @@
 ghost use Rattle.std.specs.Prelude.{◌≡◌, ◌≤◌, ◌<◌, ◌^◌, option_map, length, IfOk};
-ghost use Rattle.pt_lines.specs.Reading.{Gives, many_at};
+ghost use Rattle.pt_base.specs.Reading.{Gives, many_at};
 ghost use Rattle.pt_image.specs.Reading.{strength_at, abort_at, code_at, signals_at, slots_at, aborts_at};
 ghost use Rattle.pt_image.specs.Whole.{memory_at};
 
 use crate::image::AbortLine;
-use pt_lines::{Unread, count_line, number_lines, number_then, past, signed_lines, word_lines};
+use pt_base::{Unread, count_line, number_lines, number_then, past, signed_lines, word_lines};
 use std::alloc::Global;
 
 /// The code at the front, and what follows it.
-#[tactic(auto, using(pt_lines::proofs::Laws::many_length), unfolding(crate::specs::Reading::code_at, pt_lines::specs::Reading::lines_at))]
+#[tactic(auto, using(pt_base::proofs::Laws::many_length), unfolding(crate::specs::Reading::code_at, pt_base::specs::Reading::lines_at))]
 pub fn code_of(alloc: Global, bytes: &[u8]) -> Result<(Vec<u32>, &[u8]), Unread>
     ensures exact { Gives (λ x. (x.0.items, x.1.now)) result (code_at bytes.now) }
     ensures few { IfOk result (λ x. length x.0.items < 65537) }
@@ -19,7 +19,7 @@ pub fn code_of(alloc: Global, bytes: &[u8]) -> Result<(Vec<u32>, &[u8]), Unread>
 }
 
 /// The memory at the front, and what follows it.
-#[tactic(auto, using(pt_lines::proofs::Laws::many_length), unfolding(crate::specs::Whole::memory_at, pt_lines::specs::Reading::lines_at))]
+#[tactic(auto, using(pt_base::proofs::Laws::many_length), unfolding(crate::specs::Whole::memory_at, pt_base::specs::Reading::lines_at))]
 pub fn memory_of(alloc: Global, bytes: &[u8]) -> Result<(Vec<i32>, &[u8]), Unread>
     ensures exact { Gives (λ x. (x.0.items, x.1.now)) result (memory_at bytes.now) }
     ensures few { IfOk result (λ x. length x.0.items < 16385) }
@@ -30,7 +30,7 @@ pub fn memory_of(alloc: Global, bytes: &[u8]) -> Result<(Vec<i32>, &[u8]), Unrea
 }
 
 /// The inputs or outputs at the front, which are memory words, and what follows them.
-#[tactic(auto, unfolding(crate::specs::Reading::signals_at, pt_lines::specs::Reading::lines_at))]
+#[tactic(auto, unfolding(crate::specs::Reading::signals_at, pt_base::specs::Reading::lines_at))]
 pub fn signals_of<'a>(
     alloc: Global,
     bytes: &'a [u8],
@@ -45,7 +45,7 @@ pub fn signals_of<'a>(
 }
 
 /// The slots at the front, which start at code places, and what follows them.
-#[tactic(auto, using(pt_lines::proofs::Laws::many_length), unfolding(crate::specs::Reading::slots_at, pt_lines::specs::Reading::lines_at))]
+#[tactic(auto, using(pt_base::proofs::Laws::many_length), unfolding(crate::specs::Reading::slots_at, pt_base::specs::Reading::lines_at))]
 pub fn slots_of(alloc: Global, bytes: &[u8], code: u64) -> Result<(Vec<u32>, &[u8]), Unread>
     requires { code ≤ 2 ^ 32 }
     ensures exact { Gives (λ x. (x.0.items, x.1.now)) result (slots_at code bytes.now) }
@@ -113,7 +113,7 @@ fn abort_lines(
 }
 
 /// The abort lines at the front, whose places are code places, and what follows them.
-#[tactic(auto, using(pt_lines::proofs::Laws::many_length), unfolding(crate::specs::Reading::aborts_at, pt_lines::specs::Reading::lines_at))]
+#[tactic(auto, using(pt_base::proofs::Laws::many_length), unfolding(crate::specs::Reading::aborts_at, pt_base::specs::Reading::lines_at))]
 pub fn aborts_of(alloc: Global, bytes: &[u8], code: u64) -> Result<(Vec<AbortLine>, &[u8]), Unread>
     requires { code ≤ 2 ^ 32 }
     ensures exact { Gives (λ x. (x.0.items, x.1.now)) result (aborts_at code bytes.now) }

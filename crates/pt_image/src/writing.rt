@@ -1,9 +1,9 @@
 ghost use Rattle.std.specs.Prelude.{◌≡◌, ◌++◌, OnOk};
-ghost use Rattle.pt_lines.specs.Spelling.{each, number_text, lines_text, word_text, signed_text};
+ghost use Rattle.pt_base.specs.Spelling.{each, number_text, lines_text, word_text, signed_text};
 ghost use Rattle.pt_image.specs.Text.{abort_text, point_text};
 
 use crate::image::{AbortLine, Point};
-use pt_lines::{
+use pt_base::{
     put_count, put_number_lines, put_number_then, put_numbers, put_signed_lines, put_word_lines,
 };
 use std::alloc::AllocError;

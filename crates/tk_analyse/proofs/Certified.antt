@@ -5,24 +5,24 @@ use Rattle.std.proofs.lemmas.List.{length-map}
 use Rattle.mb_isa.specs.Costs.{IsCosts}
 use Rattle.pt_image.specs.declared.Parts.{Parts}
 use Rattle.pt_image.specs.Ranges.{IsImage}
-use Rattle.mb_step.specs.Tick.{base_of}
+use Rattle.mb_isa.specs.Tick.{base_of}
 use Rattle.tk_cert.specs.declared.cert.Line.{Line}
 use Rattle.tk_cert.specs.declared.cert.Walk.{Walk}
 use Rattle.tk_cert.specs.declared.cert.CertParts.{CertParts}
 use Rattle.tk_cert.specs.Shapes.{IsCert}
 use Rattle.tk_cert.specs.Form.{IsWalk, IsInForm}
-use Rattle.tk_bound.specs.declared.view.Side.{Side}
-use Rattle.tk_bound.specs.Sums.{greatest}
-use Rattle.tk_bound.specs.Bounded.{IsAcceptedFor, FreeTicksAreBounded, RunsAreBounded}
-use Rattle.tk_bound.specs.Walks.{most_cycles, IsWorst, IsCostOf}
+use Rattle.tk_paths.specs.declared.view.Side.{Side}
+use Rattle.tk_paths.specs.Sums.{greatest}
+use Rattle.tk_paths.specs.Bounded.{IsAcceptedFor, FreeTicksAreBounded, RunsAreBounded}
+use Rattle.tk_paths.specs.Walks.{most_cycles, IsWorst, IsCostOf}
 use Rattle.tk_paths.specs.Greatest.{beginnings}
 use Rattle.tk_paths.specs.Programs.{Section, OfThread, OfRoutine, OfCondition, Unused, Program, IsProgram, pair_from, starts_from, certificate, ProgramsAreAccepted, ProgramBoundsAreWorst}
 use Rattle.tk_paths.specs.Programs as programs
 use Rattle.tk_paths.specs.Counts.{AreSmall, CertificatesAreInForm}
 use Rattle.tk_paths.specs.declared.Section.{Section as KeptSection}
 use Rattle.tk_paths.specs.Trees.{codes_of, read_sections, program_of_sections}
-use Rattle.tk_slots.specs.Told.{told_by, slots_from}
-use Rattle.tk_slots.proofs.Later.{slots_are}
+use Rattle.tk_paths.specs.Told.{told_by, slots_from}
+use Rattle.tk_paths.proofs.Later.{slots_are}
 use Rattle.tk_threads.specs.Sections.{lines_of, weights_of}
 use Rattle.tk_analyse.specs.Certified.{Certifies}
 

@@ -3,9 +3,9 @@ use Rattle.std.specs.Prelude.{ℕ, List}
 use Rattle.pt_image.specs.declared.Parts.{Parts}
 use Rattle.tk_cert.specs.declared.cert.CertParts.{CertParts}
 use Rattle.tk_cert.specs.Demands.{AllHold}
-use Rattle.tk_bound.specs.Acceptance.{asks}
-use Rattle.tk_bound.specs.Bounded.{BoundsFreeTicks, BoundsRuns}
-use Rattle.tk_bound.specs.Walks.{IsWorst, IsCostOf}
+use Rattle.tk_paths.specs.Acceptance.{asks}
+use Rattle.tk_paths.specs.Bounded.{BoundsFreeTicks, BoundsRuns}
+use Rattle.tk_paths.specs.Walks.{IsWorst, IsCostOf}
 
 -- A certificate is accepted, its walk costs just the bound, and the bound is the worst of the image: no free tick and no tick of a run
 -- passes it.

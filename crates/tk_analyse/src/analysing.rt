@@ -1,6 +1,6 @@
 ghost use Rattle.std.specs.Prelude.{◌≡◌, ◌≤◌, IfOk, IsTrue};
 ghost use Rattle.tk_cert.specs.Form.{IsWalk, IsInForm};
-ghost use Rattle.tk_bound.specs.Walks.{most_cycles, IsCostOf};
+ghost use Rattle.tk_paths.specs.Walks.{most_cycles, IsCostOf};
 ghost use Rattle.tk_paths.specs.Programs.{IsProgram, certificate};
 ghost use Rattle.tk_paths.specs.Counts.{AreSmall};
 ghost use Rattle.tk_paths.specs.Trees.{read_program};
@@ -12,13 +12,11 @@ use mb_isa::{Class, Costs};
 use pt_base::Many;
 use pt_image::Image;
 use std::alloc::Global;
-use tk_bound::{a_yes_bounds_free_ticks, a_yes_bounds_runs};
 use tk_cert::{Cert, CertParts};
-use tk_levels::Fault;
 use tk_paths::{
-    Program, a_program_bound_is_worst, a_program_is_accepted, a_small_program_is_in_form,
+    Fault, Program, a_program_bound_is_worst, a_program_is_accepted, a_small_program_is_in_form,
+    a_yes_bounds_free_ticks, a_yes_bounds_runs, bound_of, slot_bounds,
 };
-use tk_slots::{bound_of, slot_bounds};
 use tk_threads::{all_links, made_of, starts_of, values_of};
 use tk_walk::walk_cost;
 

@@ -1,4 +1,4 @@
-use tk_levels::Fault;
+use tk_paths::Fault;
 
 /// Why no certificate is given.
 #[derive(Clone, Copy)]

@@ -14,4 +14,4 @@ mod ways;
 
 pub use analysing::{analyse, parts_of};
 pub use failing::Failure;
-pub use tk_levels::Fault;
+pub use tk_paths::Fault;

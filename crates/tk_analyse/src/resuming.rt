@@ -6,11 +6,10 @@ use crate::told::{Fired, NONE_FIRED, Next, Told, Turn, children_at};
 use crate::ways::{child_side, pausing_child, way};
 use pt_image::{Image, Point};
 use std::alloc::Global;
-use tk_bound::Side;
 use tk_cert::State;
-use tk_levels::Fault;
-use tk_slots::{
-    abort_at, number, or_zero, pair_at, paused, resumed_ends, resumed_paused, value_at, waited,
+use tk_paths::{
+    Fault, Side, abort_at, number, or_zero, pair_at, paused, resumed_ends, resumed_paused, value_at,
+    waited,
 };
 
 /// The most slots of an image: so deep do groups lie in one another at most.
@@ -90,7 +89,7 @@ fn fork_given(told: &Told, side: Side, p: &Point) -> Result<Option<u64>, Fault>
 
 /// A slot that is resumed comes to a side with its number.
 #[cycle(resume)]
-#[tactic(auto, using(tk_slots::proofs::Bests::few_at))]
+#[tactic(auto, using(tk_paths::proofs::Bests::few_at))]
 pub fn resume(
     alloc: Global,
     told: &Told,

@@ -4,10 +4,8 @@ ghost use Rattle.std.specs.Prelude.{◌≤◌, ◌+◌, ◌^◌};
 
 use mb_isa::{Class, Costs, Instr, branch_place, immediate};
 use pt_image::Image;
-use tk_bound::Side;
 use tk_cert::Line;
-use tk_levels::Pair;
-use tk_slots::{abort_at, instr_at, number};
+use tk_paths::{Pair, Side, abort_at, instr_at, number};
 
 // The most aborts that a slot is inside.
 const MOST_ABORTS: usize = 8;

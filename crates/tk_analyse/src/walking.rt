@@ -12,10 +12,8 @@ use mb_isa::Costs;
 use pt_base::Many;
 use pt_image::Image;
 use std::alloc::Global;
-use tk_bound::Side;
 use tk_cert::{Line, State, Walk};
-use tk_levels::{Fault, MOST, Pair};
-use tk_slots::{number, pair_at};
+use tk_paths::{Fault, MOST, Pair, Side, number, pair_at};
 
 // The side of the greatest of two numbers, where that is this one.
 fn side_at(numbers: Pair, greatest: u64) -> Option<Side> {

@@ -4,9 +4,7 @@ use crate::told::{Fired, NONE_FIRED, Next, Told, Turn, children_at, is_sum, star
 use mb_isa::{Class, Instr, turns};
 use pt_base::Memory;
 use std::alloc::Global;
-use tk_bound::Side;
-use tk_levels::Pair;
-use tk_slots::{instr_at, number, or_zero, pair_at};
+use tk_paths::{Pair, Side, instr_at, number, or_zero, pair_at};
 
 // The most words that a turn may have: each costs a cycle at least.
 const LONGEST: u64 = 1_000_000_000_001;

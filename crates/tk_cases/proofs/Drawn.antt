@@ -6,7 +6,7 @@ use Rattle.tk_cert.specs.declared.cert.Walk.{Walk}
 use Rattle.tk_cert.specs.declared.cert.Line.TheVariants.{Bare, Thread, Routine, Cond}
 use Rattle.tk_cert.specs.declared.cert.CertParts.{CertParts}
 use Rattle.tk_cert.specs.Demands.{Demand, first_failing}
-use Rattle.tk_bound.specs.Acceptance.{asks}
+use Rattle.tk_paths.specs.Acceptance.{asks}
 
 abbrev no_walk : Walk
 no_walk = record { states = []; choices = [] }

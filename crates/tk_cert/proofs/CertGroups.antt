@@ -1,8 +1,8 @@
 -- The certificate's groups of lines as groups of its form.
 use Rattle.std.proofs.Common.{◌≡◌, ℕ, ◌≤◌, cond, leb, List, [], ◌++◌, take, Option, refl, append_assoc, arith, lit≤, codes}
 use Rattle.std.proofs.lemmas.List.{append-nil}
-use Rattle.pt_lines.specs.Spelling.{joined, count_text, lines_text}
-use Rattle.pt_lines.proofs.FormLaws.{Group}
+use Rattle.pt_base.specs.Spelling.{joined, count_text, lines_text}
+use Rattle.pt_base.proofs.FormLaws.{Group}
 use Rattle.tk_cert.specs.declared.cert.Walk.{Walk}
 use Rattle.tk_cert.specs.declared.cert.Line.{Line}
 use Rattle.tk_cert.specs.declared.cert.CertParts.{CertParts}

@@ -1,12 +1,12 @@
 -- What reading a text gives is right: the lists whose text it is, or the first group of lines at fault.
 use Rattle.std.proofs.Common.{◌≡◌, ℕ, ◌≤◌, ltb, List, [], ◌∷◌, ◌++◌, length, take, Option, Some, None, Result, refl, sym, ap, ◌∙◌, arith, lit≤}
 use Rattle.std.proofs.lemmas.Bool.{le-ltb, ltb-false}
-use Rattle.pt_lines.specs.Spelling.{joined}
-use Rattle.pt_lines.specs.Reading.{past_all_at}
-use Rattle.pt_lines.specs.Steps.{◌>>=◌, numbered}
-use Rattle.pt_lines.specs.Forms.{Begins, IsFault}
-use Rattle.pt_lines.proofs.Laws.{some_is, test_none, past_all_found, past_all_again}
-use Rattle.pt_lines.proofs.FormLaws.{Known, Outcome, begins, advance}
+use Rattle.pt_base.specs.Spelling.{joined}
+use Rattle.pt_base.specs.Reading.{past_all_at}
+use Rattle.pt_base.specs.Steps.{◌>>=◌, numbered}
+use Rattle.pt_base.specs.Forms.{Begins, IsFault}
+use Rattle.pt_base.proofs.Laws.{some_is, test_none, past_all_found, past_all_again}
+use Rattle.pt_base.proofs.FormLaws.{Known, Outcome, begins, advance}
 use Rattle.tk_cert.specs.declared.cert.CertParts.{CertParts}
 use Rattle.tk_cert.specs.Text.{heading, groups}
 use Rattle.tk_cert.specs.Reading.{bound_at, places_at, loops_at, slots_at, walk_at}

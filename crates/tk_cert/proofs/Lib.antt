@@ -1,3 +1,4 @@
+pub mod CostFaults
 pub mod CertGroups
 pub mod CertLaws
 pub mod ListLaws

@@ -2,10 +2,10 @@
 use Rattle.std.proofs.Common.{◌≡◌, ℕ, ◌+◌, ◌<◌, ◌≤◌, Bool, true, false, cond, eqb, leb, List, [], ◌∷◌, ◌++◌, length, Option, Some, None, refl, sym, ap, subst, ◌∙◌, append_assoc, arith, inl, inr, lit≤, codes}
 use Rattle.std.specs.List.{AllByRecursion}
 use Rattle.std.proofs.lemmas.Bool.{eqb-true, leb-true, le-leb, and_parts, and_from}
-use Rattle.pt_lines.specs.Spelling.{each, number_text, count_text, lines_text}
-use Rattle.pt_lines.specs.Reading.{◌>>=◌, past_at, number_then_at, many_at, count_at, lines_at}
-use Rattle.pt_lines.proofs.Laws.{Reads, Anything, bind_some, some_is, test_some, chosen, past_found, many_found, many_again}
-use Rattle.pt_lines.proofs.FieldLaws.{number_then_reads, count_reads, lines_read}
+use Rattle.pt_base.specs.Spelling.{each, number_text, count_text, lines_text}
+use Rattle.pt_base.specs.Reading.{◌>>=◌, past_at, number_then_at, many_at, count_at, lines_at}
+use Rattle.pt_base.proofs.Laws.{Reads, Anything, bind_some, some_is, test_some, chosen, past_found, many_found, many_again}
+use Rattle.pt_base.proofs.FieldLaws.{number_then_reads, count_reads, lines_read}
 use Rattle.tk_cert.specs.declared.cert.State.{State}
 use Rattle.tk_cert.specs.declared.cert.State.TheVariants.{Free, Start, Paused, Waiting, Ended}
 use Rattle.tk_cert.specs.declared.cert.Walk.{Walk}

@@ -2,11 +2,11 @@
 use Rattle.std.proofs.Common.{◌≡◌, ℕ, ◌+◌, true, cond, eqb, leb, List, [], ◌∷◌, ◌++◌, length, Option, Some, None, refl, sym, ap, subst, ◌∙◌, append_assoc, arith, inl, inr, lit≤}
 use Rattle.std.specs.Fmt.{decimal}
 use Rattle.std.proofs.lemmas.Bool.{eqb-true, ne_eqb, leb-true, le-leb}
-use Rattle.pt_lines.specs.Spelling.{each, number_text, list_text, numbers_text}
-use Rattle.pt_lines.specs.Reading.{◌>>=◌, past_at, number_at, number_then_at, list_at, numbers_at, many_at}
-use Rattle.pt_lines.proofs.Laws.{Reads, Anything, bind_some, some_is, test_some, chosen, past_found, many_found, many_again}
-use Rattle.pt_lines.proofs.NumberLaws.{NoDigit, leads, number_found, number_again}
-use Rattle.pt_lines.proofs.FieldLaws.{number_then_reads, list_reads, numbers_read}
+use Rattle.pt_base.specs.Spelling.{each, number_text, list_text, numbers_text}
+use Rattle.pt_base.specs.Reading.{◌>>=◌, past_at, number_at, number_then_at, list_at, numbers_at, many_at}
+use Rattle.pt_base.proofs.Laws.{Reads, Anything, bind_some, some_is, test_some, chosen, past_found, many_found, many_again}
+use Rattle.pt_base.proofs.NumberLaws.{NoDigit, leads, number_found, number_again}
+use Rattle.pt_base.proofs.FieldLaws.{number_then_reads, list_reads, numbers_read}
 use Rattle.tk_cert.specs.declared.cert.Line.{Line}
 use Rattle.tk_cert.specs.declared.cert.Line.TheVariants.{Bare, Thread, Routine, Cond}
 use Rattle.tk_cert.specs.Text.{optional_text, level_text, thread_text, routine_text, cond_text, line_text}

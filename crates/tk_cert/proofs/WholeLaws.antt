@@ -5,10 +5,10 @@ use Rattle.std.specs.Fmt.{decimal}
 use Rattle.std.proofs.Math.ListN.{drop_of_length-le}
 use Rattle.std.proofs.lemmas.Fmt.{length-decimal-le}
 use Rattle.std.proofs.lemmas.List.{append-nil, length-append}
-use Rattle.pt_lines.specs.Spelling.{each, joined, number_text, list_text, numbers_text, count_text, lines_text}
-use Rattle.pt_lines.specs.Forms.{Begins, IsFault}
-use Rattle.pt_lines.proofs.Lengths.{Medium, each_short, number_short, list_short, numbers_short, lines_short}
-use Rattle.pt_lines.proofs.FormLaws.{Known, Outcome, whole_begins}
+use Rattle.pt_base.specs.Spelling.{each, joined, number_text, list_text, numbers_text, count_text, lines_text}
+use Rattle.pt_base.specs.Forms.{Begins, IsFault}
+use Rattle.pt_base.proofs.Lengths.{Medium, each_short, number_short, list_short, numbers_short, lines_short}
+use Rattle.pt_base.proofs.FormLaws.{Known, Outcome, whole_begins}
 use Rattle.tk_cert.specs.declared.cert.State.{State}
 use Rattle.tk_cert.specs.declared.cert.State.TheVariants.{Free, Start, Paused, Waiting, Ended}
 use Rattle.tk_cert.specs.declared.cert.Walk.{Walk}

@@ -2,7 +2,7 @@
 -- "The certificate file".
 use Rattle.std.specs.Prelude.{◌≡◌, ℕ, ◌+◌, ◌<◌, ◌≤◌, List, length, Option, IfSome, Result, Ok, Err}
 use Rattle.std.specs.List.{AllByRecursion}
-use Rattle.pt_lines.specs.Forms.{Form, IsFault}
+use Rattle.pt_base.specs.Forms.{Form, IsFault}
 use Rattle.tk_cert.specs.declared.cert.State.{State}
 use Rattle.tk_cert.specs.declared.cert.State.TheVariants.{Free, Start, Paused, Waiting, Ended}
 use Rattle.tk_cert.specs.declared.cert.Walk.{Walk}

@@ -1,3 +1,4 @@
+pub mod CostTables
 pub mod Shapes
 pub mod Text
 pub mod Reading

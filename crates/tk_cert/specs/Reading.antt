@@ -1,6 +1,6 @@
 -- What is read of each part of a certificate at the front of a text, and what follows it.
 use Rattle.std.specs.Prelude.{ℕ, ◌+◌, Bool, true, false, ◌&&◌, ◌==◌, nat_le, List, [], ◌∷◌, length, codes, Option, Some, None, if◌then◌else◌}
-use Rattle.pt_lines.specs.Reading.{◌>>=◌, Reader, past_at, number_at, number_then_at, list_at, numbers_at, many_at, count_at, lines_at}
+use Rattle.pt_base.specs.Reading.{◌>>=◌, Reader, past_at, number_at, number_then_at, list_at, numbers_at, many_at, count_at, lines_at}
 use Rattle.tk_cert.specs.declared.cert.State.{State}
 use Rattle.tk_cert.specs.declared.cert.State.TheVariants.{Free, Start, Paused, Waiting, Ended}
 use Rattle.tk_cert.specs.declared.cert.Walk.{Walk}

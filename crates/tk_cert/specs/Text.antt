@@ -1,7 +1,7 @@
 -- The one text of a certificate: docs/files.md, "The certificate file".
 use Rattle.std.specs.Prelude.{ℕ, Bool, true, false, List, [], ◌∷◌, ◌++◌, length, codes, Option, Some, None}
 use Rattle.std.specs.Fmt.{decimal}
-use Rattle.pt_lines.specs.Spelling.{each, joined, number_text, list_text, numbers_text, count_text, lines_text}
+use Rattle.pt_base.specs.Spelling.{each, joined, number_text, list_text, numbers_text, count_text, lines_text}
 use Rattle.tk_cert.specs.declared.cert.State.{State}
 use Rattle.tk_cert.specs.declared.cert.State.TheVariants.{Free, Start, Paused, Waiting, Ended}
 use Rattle.tk_cert.specs.declared.cert.Walk.{Walk}

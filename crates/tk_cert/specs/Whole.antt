@@ -1,9 +1,9 @@
 -- What is read of a whole text, or the number of the first group of lines that is at fault.
 use Rattle.std.specs.Prelude.{◌≡◌, ℕ, List, [], ◌∷◌, length, nat_lt, Option, None, Result, Ok, Err, if◌then◌else◌}
-use Rattle.pt_lines.specs.Steps.{◌>>=◌, numbered}
-use Rattle.pt_lines.specs.Reading.{past_all_at}
-use Rattle.pt_lines.specs.declared.fault.Unread.{Unread}
-use Rattle.pt_lines.specs.declared.fault.Unread.TheVariants as unread
+use Rattle.pt_base.specs.Steps.{◌>>=◌, numbered}
+use Rattle.pt_base.specs.Reading.{past_all_at}
+use Rattle.pt_base.specs.declared.fault.Unread.{Unread}
+use Rattle.pt_base.specs.declared.fault.Unread.TheVariants as unread
 use Rattle.tk_cert.specs.declared.fault.CertFault.{CertFault}
 use Rattle.tk_cert.specs.declared.fault.CertFault.TheVariants.{Form, Memory}
 use Rattle.tk_cert.specs.declared.cert.CertParts.{CertParts}

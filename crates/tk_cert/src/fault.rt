@@ -1,7 +1,7 @@
 ghost use Rattle.std.specs.Prelude.{◌≡◌};
 ghost use Rattle.tk_cert.specs.Whole.{fault_of};
 
-use pt_lines::Unread;
+use pt_base::Unread;
 
 /// Why a text is not read as a certificate.
 #[derive(Clone, Copy, Debug, PartialEq, Eq)]

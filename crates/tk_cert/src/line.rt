@@ -1,10 +1,9 @@
 ghost use Rattle.std.specs.Prelude.{◌≡◌, ◌+◌, option_map};
-ghost use Rattle.pt_lines.specs.Reading.{Gives, many_at};
+ghost use Rattle.pt_base.specs.Reading.{Gives, many_at};
 ghost use Rattle.tk_cert.specs.Reading.{optional_at, level_at, thread_at, routine_at, cond_at, bare_at, line_at};
 
 use crate::cert::Line;
-use pt_base::Many;
-use pt_lines::{Unread, list, number, number_then, numbers, past};
+use pt_base::{Many, Unread, list, number, number_then, numbers, past};
 use std::alloc::Global;
 
 /// The least number that is too large.

@@ -1,10 +1,10 @@
 ghost use Rattle.std.specs.Prelude.{◌≡◌, option_map};
-ghost use Rattle.pt_lines.specs.Reading.{Gives, many_at};
+ghost use Rattle.pt_base.specs.Reading.{Gives, many_at};
 ghost use Rattle.tk_cert.specs.Reading.{weight_at, rise_from, slot_at, bound_at, places_at, loops_at, slots_at};
 
 use crate::cert::Line;
 use crate::line::{TOO_LARGE, line_list, optional};
-use pt_lines::{Unread, count_line, number_then, past};
+use pt_base::{Unread, count_line, number_then, past};
 use std::alloc::Global;
 
 /// The bound at the front, and what follows it.
@@ -16,7 +16,7 @@ pub fn bound_of(bytes: &[u8]) -> Option<(u64, &[u8])>
 }
 
 /// The lines of code places at the front, and what follows them.
-#[tactic(auto, unfolding(crate::specs::Reading::places_at, pt_lines::specs::Reading::lines_at))]
+#[tactic(auto, unfolding(crate::specs::Reading::places_at, pt_base::specs::Reading::lines_at))]
 pub fn places_of(alloc: Global, bytes: &[u8]) -> Result<(Vec<Line>, &[u8]), Unread>
     ensures { Gives (λ x. (x.0.items, x.1.now)) result (places_at bytes.now) }
 {
@@ -63,7 +63,7 @@ fn rise(weights: &[(u32, u64)]) -> bool
 }
 
 /// The places of loops with their weights at the front, and what follows them.
-#[tactic(auto, unfolding(crate::specs::Reading::loops_at, pt_lines::specs::Reading::lines_at))]
+#[tactic(auto, unfolding(crate::specs::Reading::loops_at, pt_base::specs::Reading::lines_at))]
 pub fn loops_of(alloc: Global, bytes: &[u8]) -> Result<(Vec<(u32, u64)>, &[u8]), Unread>
     ensures { Gives (λ x. (x.0.items, x.1.now)) result (loops_at bytes.now) }
 {
@@ -107,7 +107,7 @@ fn slot_list(
 }
 
 /// The two numbers of each slot at the front, and what follows them.
-#[tactic(auto, unfolding(crate::specs::Reading::slots_at, pt_lines::specs::Reading::lines_at))]
+#[tactic(auto, unfolding(crate::specs::Reading::slots_at, pt_base::specs::Reading::lines_at))]
 pub fn slots_of(
     alloc: Global,
     bytes: &[u8],

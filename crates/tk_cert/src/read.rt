@@ -8,8 +8,7 @@ use crate::cert::{Cert, CertParts};
 use crate::fault::{CertFault, fault};
 use crate::lists::{bound_of, loops_of, places_of, slots_of};
 use crate::walk::walk_of;
-use pt_base::{Many, Text};
-use pt_lines::past_all;
+use pt_base::{Many, Text, past_all};
 use std::alloc::Global;
 
 // What follows the heading of a text that isn't too long.

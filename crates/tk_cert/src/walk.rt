@@ -1,11 +1,10 @@
 ghost use Rattle.std.specs.Prelude.{◌≡◌, option_map};
-ghost use Rattle.pt_lines.specs.Reading.{Gives, many_at};
+ghost use Rattle.pt_base.specs.Reading.{Gives, many_at};
 ghost use Rattle.tk_cert.specs.Reading.{place_at, plain_at, state_at, choice_at, choices_at, walk_at};
 
 use crate::cert::{State, Walk};
 use crate::line::TOO_LARGE;
-use pt_base::Many;
-use pt_lines::{Unread, count_line, number_then, past};
+use pt_base::{Many, Unread, count_line, number_then, past};
 use std::alloc::Global;
 
 // A place behind a blank with its line feed, and what follows them.
@@ -115,7 +114,7 @@ fn choices(alloc: Global, bytes: &[u8]) -> Result<(Vec<bool>, &[u8]), Unread>
 }
 
 /// The walk at the front, and what follows it.
-#[tactic(auto, unfolding(crate::specs::Reading::walk_at, pt_lines::specs::Reading::lines_at))]
+#[tactic(auto, unfolding(crate::specs::Reading::walk_at, pt_base::specs::Reading::lines_at))]
 pub fn walk_of(alloc: Global, bytes: &[u8]) -> Result<(Walk, &[u8]), Unread>
     ensures { Gives (λ x. (x.0, x.1.now)) result (walk_at bytes.now) }
 {

@@ -3,8 +3,7 @@ ghost use Rattle.tk_cert.specs.Text.{text_of, walk_text};
 
 use crate::cert::{Cert, Walk};
 use crate::writing::{put_choices, put_lines, put_slots, put_states, put_weights};
-use pt_base::{Memory, Text};
-use pt_lines::put_count;
+use pt_base::{Memory, Text, put_count};
 use std::alloc::{AllocError, Global};
 
 // Puts a walk at the end.

@@ -1,9 +1,9 @@
 ghost use Rattle.std.specs.Prelude.{◌≡◌, ◌++◌, ◌∷◌, [], OnOk};
-ghost use Rattle.pt_lines.specs.Spelling.{each, number_text};
+ghost use Rattle.pt_base.specs.Spelling.{each, number_text};
 ghost use Rattle.tk_cert.specs.Text.{optional_text, level_text, thread_text, routine_text, cond_text, line_text, weight_text, slot_text, state_text, choice_text};
 
 use crate::cert::{Line, State};
-use pt_lines::{put_list, put_number, put_number_then, put_numbers};
+use pt_base::{put_list, put_number, put_number_then, put_numbers};
 use std::alloc::AllocError;
 
 // Puts a number, or `-` for none, at the end.

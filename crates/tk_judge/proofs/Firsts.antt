@@ -4,8 +4,8 @@ use Rattle.std.specs.Option.{option_or}
 use Rattle.pt_image.specs.declared.Parts.{Parts}
 use Rattle.tk_cert.specs.declared.cert.CertParts.{CertParts}
 use Rattle.tk_cert.specs.Demands.{Demand}
-use Rattle.tk_bound.specs.Kinds.{abort_at}
-use Rattle.tk_bound.specs.Acceptance.{value, weak_handlers, strong_handlers}
+use Rattle.tk_paths.specs.Kinds.{abort_at}
+use Rattle.tk_paths.specs.Acceptance.{value, weak_handlers, strong_handlers}
 use Rattle.tk_shape.specs.Refused.{refused}
 use Rattle.tk_shape.proofs.Refusals.{refused_append}
 use Rattle.tk_judge.specs.Asks.{if_weak, if_strong}

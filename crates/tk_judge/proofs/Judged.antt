@@ -4,8 +4,8 @@ use Rattle.std.specs.Prelude.{Option, Some, None, option_map, if◌then◌else�
 use Rattle.std.specs.Option.{option_or}
 use Rattle.pt_image.specs.declared.Parts.{Parts}
 use Rattle.tk_cert.specs.declared.cert.CertParts.{CertParts}
-use Rattle.tk_bound.specs.Shape.{shape, apart}
-use Rattle.tk_bound.specs.Acceptance.{edges, pauses, forks, resuming, bounded, asks}
+use Rattle.tk_paths.specs.Shape.{shape, apart}
+use Rattle.tk_paths.specs.Acceptance.{edges, pauses, forks, resuming, bounded, asks}
 use Rattle.tk_shape.proofs.Refusals.{refused_append}
 use Rattle.tk_cert.specs.Demands.{Demand, first_failing, AllHold}
 use Rattle.tk_shape.specs.declared.refusal.Refusal.{Refusal}

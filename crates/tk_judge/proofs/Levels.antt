@@ -8,11 +8,11 @@ use Rattle.tk_cert.specs.declared.cert.Line.{Line}
 use Rattle.tk_cert.specs.declared.cert.Line.TheVariants.{Thread, Routine, Cond}
 use Rattle.tk_cert.specs.declared.cert.CertParts.{CertParts}
 use Rattle.tk_cert.specs.Demands.{Demand}
-use Rattle.tk_bound.specs.declared.view.View.{View}
-use Rattle.tk_bound.specs.declared.view.View.TheVariants.{On, Value}
-use Rattle.tk_bound.specs.declared.view.Side.TheVariants.{ToPause, ToEnd}
-use Rattle.tk_bound.specs.Kinds.{word_at}
-use Rattle.tk_bound.specs.Acceptance.{word_edges, line_edges}
+use Rattle.tk_paths.specs.declared.view.View.{View}
+use Rattle.tk_paths.specs.declared.view.View.TheVariants.{On, Value}
+use Rattle.tk_paths.specs.declared.view.Side.TheVariants.{ToPause, ToEnd}
+use Rattle.tk_paths.specs.Kinds.{word_at}
+use Rattle.tk_paths.specs.Acceptance.{word_edges, line_edges}
 use Rattle.tk_shape.specs.Refused.{refused}
 use Rattle.tk_judge.specs.Asks.{level_edges}
 

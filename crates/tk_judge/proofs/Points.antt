@@ -8,10 +8,10 @@ use Rattle.pt_image.specs.declared.Point.{Point}
 use Rattle.pt_image.specs.declared.Parts.{Parts}
 use Rattle.tk_cert.specs.declared.cert.CertParts.{CertParts}
 use Rattle.tk_cert.specs.Demands.{Demand}
-use Rattle.tk_bound.specs.Kinds.{points_at}
-use Rattle.tk_bound.specs.Shape.{earlier, meet, children_at}
-use Rattle.tk_bound.specs.Acceptance.{has_resumed, fork_resumes, resumed_strong, resumed_join, resumed_handlers}
-use Rattle.tk_bound.specs.declared.view.Side.TheVariants.{ToPause, ToEnd}
+use Rattle.tk_paths.specs.Kinds.{points_at}
+use Rattle.tk_paths.specs.Shape.{earlier, meet, children_at}
+use Rattle.tk_paths.specs.Acceptance.{has_resumed, fork_resumes, resumed_strong, resumed_join, resumed_handlers}
+use Rattle.tk_paths.specs.declared.view.Side.TheVariants.{ToPause, ToEnd}
 use Rattle.tk_shape.specs.Refused.{refused}
 use Rattle.tk_shape.proofs.Refusals.{refused_append}
 use Rattle.tk_judge.specs.Asks.{is_clear, if_any, fork_both, fork_to_pause, fork_to_end}

@@ -8,14 +8,14 @@ use Rattle.pt_image.specs.declared.Parts.{Parts}
 use Rattle.tk_cert.specs.declared.cert.Line.{Line}
 use Rattle.tk_cert.specs.declared.cert.CertParts.{CertParts}
 use Rattle.tk_cert.specs.Demands.{Demand, at_least, shape_demand}
-use Rattle.tk_bound.specs.declared.view.Side.{Side}
-use Rattle.tk_bound.specs.declared.view.Side.TheVariants.{ToPause, ToEnd}
-use Rattle.tk_bound.specs.declared.view.View.TheVariants.{On}
-use Rattle.tk_bound.specs.declared.word.Word.{Word}
-use Rattle.tk_bound.specs.Sums.{plus, most_paused, resumed_paused}
-use Rattle.tk_bound.specs.Kinds.{abort_at, points_at, line_at, word_at}
-use Rattle.tk_bound.specs.Shape.{is_apart, children_at, meet}
-use Rattle.tk_bound.specs.Acceptance.{more, number, cost, begins, resumed, conditions, on_side, word_edges, line_edges, word_pauses, word_forks, resumes, pause_resumes, resumed_strong, resumed_join, resumed_handlers, fork_resumes, weak_handlers, strong_handlers}
+use Rattle.tk_paths.specs.declared.view.Side.{Side}
+use Rattle.tk_paths.specs.declared.view.Side.TheVariants.{ToPause, ToEnd}
+use Rattle.tk_paths.specs.declared.view.View.TheVariants.{On}
+use Rattle.tk_paths.specs.declared.word.Word.{Word}
+use Rattle.tk_paths.specs.Sums.{plus, most_paused, resumed_paused}
+use Rattle.tk_paths.specs.Kinds.{abort_at, points_at, line_at, word_at}
+use Rattle.tk_paths.specs.Shape.{is_apart, children_at, meet}
+use Rattle.tk_paths.specs.Acceptance.{more, number, cost, begins, resumed, conditions, on_side, word_edges, line_edges, word_pauses, word_forks, resumes, pause_resumes, resumed_strong, resumed_join, resumed_handlers, fork_resumes, weak_handlers, strong_handlers}
 use Rattle.tk_shape.specs.Children.{restarted}
 use Rattle.tk_judge.specs.declared.handlers.Rested.{Rested}
 

@@ -1,2 +1,3 @@
 pub mod Small
 pub mod Asks
+pub mod Answers

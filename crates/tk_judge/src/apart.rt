@@ -4,7 +4,7 @@ ghost use Rattle.std.specs.Prelude.{◌≡◌, ◌<◌, map, option_map};
 ghost use Rattle.std.specs.Option.{option_to_list};
 ghost use Rattle.tk_cert.specs.Demands.{shape_demand};
 ghost use Rattle.std.specs.List.{list_all};
-ghost use Rattle.tk_bound.specs.Shape.{children_at, meet, earlier, is_apart, apart};
+ghost use Rattle.tk_paths.specs.Shape.{children_at, meet, earlier, is_apart, apart};
 ghost use Rattle.tk_shape.specs.Looking.{AreTables};
 ghost use Rattle.tk_shape.specs.Refused.{refused};
 ghost use Rattle.tk_judge.specs.Asks.{is_clear, apart_at};

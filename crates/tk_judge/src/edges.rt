@@ -3,20 +3,20 @@
 ghost use Rattle.std.specs.Prelude.{◌≡◌, ◌≤◌, ◌<◌, ◌^◌, ◌++◌, Some, None, length};
 ghost use Rattle.mb_pfu.specs.Calls.{last_of};
 ghost use Rattle.mb_isa.specs.Costs.{cost_of};
-ghost use Rattle.tk_bound.specs.declared.word.Word.TheVariants.{Jump, Branch, Leave, Next};
+ghost use Rattle.tk_paths.specs.declared.word.Word.TheVariants.{Jump, Branch, Leave, Next};
 ghost use Rattle.std.specs.List.{flat_map, range_with_len};
-ghost use Rattle.tk_bound.specs.Kinds.{line_at, loops_of};
-ghost use Rattle.tk_bound.specs.Shape.{weight_in};
-ghost use Rattle.tk_bound.specs.Acceptance.{edge, ending, closing, left_view, word_edges, stack_of, weight, inner_weight, line_edges};
-ghost use Rattle.tk_bound.specs.Acceptance.{edges, more, number, level_of};
+ghost use Rattle.tk_paths.specs.Kinds.{line_at, loops_of};
+ghost use Rattle.tk_paths.specs.Shape.{weight_in};
+ghost use Rattle.tk_paths.specs.Acceptance.{edge, ending, closing, left_view, word_edges, stack_of, weight, inner_weight, line_edges};
+ghost use Rattle.tk_paths.specs.Acceptance.{edges, more, number, level_of};
 ghost use Rattle.tk_shape.specs.Looking.{AreTables};
 ghost use Rattle.tk_shape.specs.Refused.{refused};
 ghost use Rattle.tk_judge.specs.Asks.{level_edges, edges_at};
 
 use mb_isa::{Class, Costs};
 use pt_image::Image;
-use tk_bound::{Side, View, Word};
 use tk_cert::{Cert, Line};
+use tk_paths::{Side, View, Word};
 use tk_shape::{
     Refusal, Tables, at_least, last, level_of, loops_of, lowered, more, number, stack_of, value_at,
     weight_at, word_at,

@@ -2,7 +2,7 @@
 
 ghost use Rattle.std.specs.Prelude.{◌≡◌, ◌<◌, ◌^◌, ◌++◌, ◌≤◌};
 ghost use Rattle.std.specs.List.{flat_map, range_with_len};
-ghost use Rattle.tk_bound.specs.Acceptance.{fork_ends, fork_handlers, fork_at_level, forks};
+ghost use Rattle.tk_paths.specs.Acceptance.{fork_ends, fork_handlers, fork_at_level, forks};
 ghost use Rattle.tk_shape.specs.Refused.{refused};
 ghost use Rattle.tk_judge.specs.Asks.{fork_pauses, forks_at};
 
@@ -10,8 +10,8 @@ use crate::handlers::{Rested, rested_handlers};
 use crate::sums::{all_ends, most_paused, plus, rested};
 use mb_isa::{Class, Costs};
 use pt_image::Image;
-use tk_bound::{Side, View, Word};
 use tk_cert::Cert;
+use tk_paths::{Side, View, Word};
 use tk_shape::{Refusal, at_least, levels_at, number, stack_at, word_at};
 
 // What a fork asks where all children end.

@@ -1,16 +1,16 @@
 //! What the handlers of aborts ask.
 
 ghost use Rattle.std.specs.Prelude.{◌≡◌, ◌≤◌, ◌<◌, ◌+◌, ◌*◌, ◌^◌, IfSome, length, ◌∷◌, []};
-ghost use Rattle.tk_bound.specs.Kinds.{abort_at};
-ghost use Rattle.tk_bound.specs.Acceptance.{conditions};
+ghost use Rattle.tk_paths.specs.Kinds.{abort_at};
+ghost use Rattle.tk_paths.specs.Acceptance.{conditions};
 ghost use Rattle.tk_shape.specs.Refused.{refused};
 ghost use Rattle.tk_judge.specs.Asks.{if_weak, if_strong, pause_asks, pause_asked, rested_asks, rested_asked, strong_asks, strong_asked};
 
 use crate::sums::rested;
 use mb_isa::{Class, Costs};
 use pt_image::{AbortLine, Image, Point};
-use tk_bound::{Side, View};
 use tk_cert::Cert;
+use tk_paths::{Side, View};
 use tk_shape::{Refusal, at_least, more, number, restarted, value_at};
 
 // A line of the table of aborts.

@@ -1,10 +1,10 @@
 //! The judge.
 
 ghost use Rattle.std.specs.Prelude.{◌≡◌, ◌↔◌, ◌++◌, None};
-ghost use Rattle.mb_step.specs.Tick.{base_of};
+ghost use Rattle.mb_isa.specs.Tick.{base_of};
 ghost use Rattle.tk_cert.specs.Demands.{AllHold};
-ghost use Rattle.tk_bound.specs.Sums.{greatest};
-ghost use Rattle.tk_bound.specs.Acceptance.{bounded, asks};
+ghost use Rattle.tk_paths.specs.Sums.{greatest};
+ghost use Rattle.tk_paths.specs.Acceptance.{bounded, asks};
 ghost use Rattle.tk_shape.specs.Refused.{refused};
 
 use crate::apart::apart;
@@ -14,8 +14,8 @@ use crate::pauses::pauses;
 use crate::resuming::resuming;
 use mb_isa::Costs;
 use pt_image::Image;
-use tk_bound::Side;
 use tk_cert::Cert;
+use tk_paths::Side;
 use tk_shape::{Refusal, Tables, at_least, restarted, shape, starting};
 
 // The greatest of the numbers that are there, or 0.
@@ -83,7 +83,7 @@ fn first_refusal(image: &Image, cert: &Cert, costs: &Costs) -> Option<Refusal>
 
 /// The first demand of acceptance that an image, a certificate and a table of costs fail, in the order of `asks`: its condition,
 /// its place, its level, what is needed, and the number that is given; none exactly where all demands hold, and then the
-/// bound bounds every tick (`tk_bound`).
+/// bound bounds every tick (`tk_paths`).
 ///
 /// Takes no memory, and time about linear in the code, the lines and their levels: what is looked up by place stands in tables
 /// of 832 kilobytes on the stack. Of the listed forks at most 63 have children of their own, so the list is gone over at most

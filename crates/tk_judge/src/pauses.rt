@@ -2,15 +2,15 @@
 
 ghost use Rattle.std.specs.Prelude.{◌≡◌, ◌<◌, ◌^◌, ◌++◌};
 ghost use Rattle.std.specs.List.{flat_map, range_with_len};
-ghost use Rattle.tk_bound.specs.Acceptance.{pause_at_level, pauses};
+ghost use Rattle.tk_paths.specs.Acceptance.{pause_at_level, pauses};
 ghost use Rattle.tk_shape.specs.Refused.{refused};
 ghost use Rattle.tk_judge.specs.Asks.{pauses_at};
 
 use crate::handlers::pause_handlers;
 use mb_isa::{Class, Costs};
 use pt_image::Image;
-use tk_bound::{Side, View, Word};
 use tk_cert::Cert;
+use tk_paths::{Side, View, Word};
 use tk_shape::{Refusal, at_least, levels_at, number, stack_at, word_at};
 
 // What a pause asks at a level.

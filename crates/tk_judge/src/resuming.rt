@@ -3,8 +3,8 @@
 ghost use Rattle.std.specs.Prelude.{◌≡◌, ◌≤◌, ◌<◌, ◌^◌, ◌++◌, length, option_map, IfSome};
 ghost use Rattle.std.specs.Option.{option_to_list};
 ghost use Rattle.std.specs.List.{flat_map};
-ghost use Rattle.tk_bound.specs.Kinds.{points_at};
-ghost use Rattle.tk_bound.specs.Acceptance.{resumed_strong, pause_resumes, resumed_join, resumed_handlers, fork_resumes, resuming};
+ghost use Rattle.tk_paths.specs.Kinds.{points_at};
+ghost use Rattle.tk_paths.specs.Acceptance.{resumed_strong, pause_resumes, resumed_join, resumed_handlers, fork_resumes, resuming};
 ghost use Rattle.tk_shape.specs.Looking.{HasFew, AreTables};
 ghost use Rattle.tk_shape.specs.Refused.{refused};
 ghost use Rattle.tk_judge.specs.Asks.{if_any, fork_both, resumed_next, resumed_pauses, pause_point, fork_point, fork_to_pause, fork_to_end};
@@ -15,8 +15,8 @@ use crate::handlers::{Rested, conditions, rested_handlers, strong_handlers};
 use crate::sums::{has_restarted, plus, rested, resumed_ends, resumed_paused};
 use mb_isa::Costs;
 use pt_image::{Image, Point};
-use tk_bound::{Side, View};
 use tk_cert::Cert;
+use tk_paths::{Side, View};
 use tk_shape::{Refusal, Tables, at_least, fork_at, more, number, pause_at, restarted};
 
 // What the handlers of strong aborts ask of a slot that is resumed.

@@ -1,17 +1,17 @@
 //! Sums over the children of a fork.
 
 ghost use Rattle.std.specs.Prelude.{◌≡◌, ◌≤◌, ◌<◌, ◌+◌, ◌*◌, ◌^◌, IfSome, Some};
-ghost use Rattle.tk_bound.specs.declared.view.Side.TheVariants.{ToPause, ToEnd};
-ghost use Rattle.tk_bound.specs.Sums.{plus, greater, or_zero, and_more, all_ends, most, most_paused, resumed_ends, resumed_most};
-ghost use Rattle.tk_bound.specs.Sums.{resumed_paused};
-ghost use Rattle.tk_bound.specs.Acceptance.{more};
+ghost use Rattle.tk_paths.specs.declared.view.Side.TheVariants.{ToPause, ToEnd};
+ghost use Rattle.tk_paths.specs.Sums.{plus, greater, or_zero, and_more, all_ends, most, most_paused, resumed_ends, resumed_most};
+ghost use Rattle.tk_paths.specs.Sums.{resumed_paused};
+ghost use Rattle.tk_paths.specs.Acceptance.{more};
 ghost use Rattle.tk_shape.specs.Children.{starting, restarted};
 ghost use Rattle.tk_judge.specs.Small.{IsSmall};
 ghost use Rattle.tk_judge.specs.Asks.{has_restarted};
 
 use pt_image::Image;
-use tk_bound::Side;
 use tk_cert::Cert;
+use tk_paths::Side;
 use tk_shape::{restarted, starting};
 
 /// A sum, where both numbers are there.

@@ -2,15 +2,15 @@
 use Rattle.std.proofs.Common.{◌≡◌, ◌≤◌, ◌+◌, ◌-◌, ℕ, List, length, Option, refl, ap, arith}
 use Rattle.pt_image.specs.declared.Parts.{Parts}
 use Rattle.mb_isa.specs.declared.Class.TheVariants as class
-use Rattle.tk_bound.specs.declared.view.Side.{Side}
-use Rattle.tk_bound.specs.declared.view.Side.TheVariants.{ToPause, ToEnd}
-use Rattle.tk_bound.specs.declared.view.View.TheVariants.{On, Value}
+use Rattle.tk_paths.specs.declared.view.Side.{Side}
+use Rattle.tk_paths.specs.declared.view.Side.TheVariants.{ToPause, ToEnd}
+use Rattle.tk_paths.specs.declared.view.View.TheVariants.{On, Value}
 use Rattle.tk_paths.specs.Regions.{Region, through, leaving}
 use Rattle.tk_paths.specs.Numbers.{Numbers, level, next_number, at_next, tested_weight, cost}
-use Rattle.tk_levels.specs.declared.levels.Levels.{Levels}
-use Rattle.tk_levels.specs.Levels.{numbers_of, levels_to}
+use Rattle.tk_paths.specs.declared.levels.Levels.{Levels}
+use Rattle.tk_paths.specs.Levels.{numbers_of, levels_to}
 use Rattle.tk_numbers.specs.Nexts.{nexts}
-use Rattle.tk_levels.proofs.LevelLaws.{told, settles, one-more}
+use Rattle.tk_paths.proofs.LevelLaws.{told, settles, one-more}
 
 pub nexts_level : (next out w : ℕ) (V : Numbers) (k : ℕ) →
     level (nexts next out w V) k ≡ (next_number next out w (V (On ToPause k)), next_number next out w (V (On ToEnd k)))

@@ -1,12 +1,12 @@
 //! What the words of units are charged.
 
 ghost use Rattle.std.specs.Prelude.{◌≡◌, ◌≤◌, ◌<◌, ◌+◌, ◌*◌, ◌^◌, Some, IfOk};
-ghost use Rattle.tk_bound.specs.Words.{instr_at, read_instr, word_of};
+ghost use Rattle.tk_paths.specs.Words.{instr_at, read_instr, word_of};
 ghost use Rattle.tk_paths.specs.Regions.{half, half_cost, word_place, behind, unit_word, extra, word_cost, units_cost};
 
 use mb_isa::{Class, Costs, Instr, class, decode, takes_upper};
 use pt_image::Image;
-use tk_levels::{Fault, sum};
+use tk_paths::{Fault, sum};
 
 // The instruction at a place, if there is one.
 fn instr_at(image: &Image, place: usize) -> Option<Instr>

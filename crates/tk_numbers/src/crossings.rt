@@ -10,8 +10,7 @@ use crate::charges::extra;
 use crate::turns::{jump_cost, leaving, plain_turn, tested_turn, testing_cost};
 use mb_isa::{Class, Costs};
 use pt_image::Image;
-use tk_levels::{Fault, product, sum};
-use tk_paths::{Region, Section};
+use tk_paths::{Fault, Region, Section, product, sum};
 
 /// The dearer side of a choice, whose sides cost so much.
 pub fn choice_cost(

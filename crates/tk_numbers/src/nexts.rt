@@ -5,7 +5,7 @@ ghost use Rattle.tk_paths.specs.Numbers.{next_number, at_next};
 ghost use Rattle.tk_paths.specs.Regions.{through};
 ghost use Rattle.tk_paths.specs.Trees.{read_region};
 ghost use Rattle.tk_numbers.specs.Charges.{routines_in};
-ghost use Rattle.tk_levels.specs.Levels.{numbers_of};
+ghost use Rattle.tk_paths.specs.Levels.{numbers_of};
 ghost use Rattle.tk_numbers.specs.Nexts.{nexts};
 
 use crate::turns::{leaving, tested_turn};
@@ -13,8 +13,7 @@ use mb_isa::{Class, Costs};
 use pt_base::Many;
 use pt_image::Image;
 use std::alloc::Global;
-use tk_levels::{Fault, Levels, level_at, sum};
-use tk_paths::{Region, Section};
+use tk_paths::{Fault, Levels, Region, Section, level_at, sum};
 
 // A sum of two numbers without a third, and not below 0.
 fn without(out: u64, behind: u64, weight: u64) -> Result<u64, Fault>

@@ -6,8 +6,8 @@ ghost use Rattle.tk_paths.specs.Regions.{behind, extra, plain_turn, tested_loop,
 ghost use Rattle.tk_paths.specs.Numbers.{after, branched, cost, inside, jump_lines, jumping, line, test_lines, unit_lines};
 ghost use Rattle.tk_paths.specs.Trees.{read_region};
 ghost use Rattle.tk_numbers.specs.Charges.{routines_in};
-ghost use Rattle.tk_levels.specs.Kinds.{kind_of};
-ghost use Rattle.tk_levels.specs.Levels.{numbers_of};
+ghost use Rattle.tk_paths.specs.PlaceKinds.{kind_of};
+ghost use Rattle.tk_paths.specs.Levels.{numbers_of};
 
 use crate::charges::{behind, word_place};
 use crate::crossings::{calling_cost, choice_cost, counted_cost, repeated_cost};
@@ -16,8 +16,7 @@ use crate::units::{jump_lines, jumping, put_line, test_lines, unit_lines};
 use mb_isa::{Class, Costs};
 use pt_image::Image;
 use std::alloc::Global;
-use tk_levels::{Fault, Kind, Levels, Made, after, branched, in_loop, product, sum};
-use tk_paths::{Region, Section};
+use tk_paths::{Fault, Kind, Levels, Made, Region, Section, after, branched, in_loop, product, sum};
 
 // The numbers of a branch.
 #[tactic(auto, using(crate::proofs::Tests::branching_is))]

@@ -10,8 +10,7 @@ use crate::crossings::{calling_cost, choice_cost, counted_cost, repeated_cost};
 use crate::turns::end_of;
 use mb_isa::Costs;
 use pt_image::Image;
-use tk_levels::{Fault, sum};
-use tk_paths::{Region, Section};
+use tk_paths::{Fault, Region, Section, sum};
 
 /// The cost of a routine, 0 where there is none of its number.
 #[tactic(auto, using(crate::proofs::Values::value_is))]

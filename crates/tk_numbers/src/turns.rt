@@ -10,8 +10,7 @@ ghost use Rattle.tk_numbers.specs.Charges.{routines_in};
 use crate::charges::{behind, extra, units_cost};
 use mb_isa::{Class, Costs};
 use pt_image::Image;
-use tk_levels::{Fault, sum};
-use tk_paths::{Region, Section};
+use tk_paths::{Fault, Region, Section, sum};
 
 /// The place behind a region.
 #[tactic(auto, using(tk_paths::proofs::Readings::region_reads))]

@@ -3,8 +3,8 @@
 ghost use Rattle.std.specs.Prelude.{◌≡◌, ◌<◌, ◌^◌, ◌++◌, ◌∷◌, IfOk};
 ghost use Rattle.tk_paths.specs.Numbers.{line, unit_lines, units_lines, jump_lines, test_lines, jumping};
 ghost use Rattle.tk_paths.specs.Regions.{units_cost};
-ghost use Rattle.tk_levels.specs.Kinds.{kind_of};
-ghost use Rattle.tk_levels.specs.Levels.{numbers_of};
+ghost use Rattle.tk_paths.specs.PlaceKinds.{kind_of};
+ghost use Rattle.tk_paths.specs.Levels.{numbers_of};
 ghost use Rattle.tk_numbers.specs.Units.{places_from, charged, lines_at};
 
 use crate::charges::{behind, extra, half, unit_cost};
@@ -12,7 +12,7 @@ use crate::turns::jump_cost;
 use mb_isa::{Class, Costs};
 use pt_image::Image;
 use std::alloc::Global;
-use tk_levels::{Fault, Kind, Levels, Made, after, line, sum};
+use tk_paths::{Fault, Kind, Levels, Made, after, line, sum};
 
 /// Puts the line of a place with these numbers.
 pub fn put_line(alloc: Global, kind: &Kind, levels: &Levels, made: &mut Made) -> Result<(), Fault>

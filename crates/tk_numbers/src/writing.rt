@@ -5,8 +5,8 @@ ghost use Rattle.tk_paths.specs.Regions.{through};
 ghost use Rattle.tk_paths.specs.Numbers.{region_lines, region_weights};
 ghost use Rattle.tk_paths.specs.Trees.{read_region, regions_from};
 ghost use Rattle.tk_numbers.specs.Charges.{routines_in, IsValued};
-ghost use Rattle.tk_levels.specs.Kinds.{kind_of};
-ghost use Rattle.tk_levels.specs.Levels.{numbers_of};
+ghost use Rattle.tk_paths.specs.PlaceKinds.{kind_of};
+ghost use Rattle.tk_paths.specs.Levels.{numbers_of};
 
 use crate::nexts::at_next;
 use crate::putting::{
@@ -18,8 +18,7 @@ use crate::units::units_lines;
 use mb_isa::{Class, Costs};
 use pt_image::Image;
 use std::alloc::Global;
-use tk_levels::{Fault, Kind, Levels, Made, after, sum};
-use tk_paths::{Region, Section};
+use tk_paths::{Fault, Kind, Levels, Made, Region, Section, after, sum};
 
 /// Puts the lines and the weights of a region, and says what its dearest way costs; the numbers are those behind it, and the sections
 /// before have routines of these costs.

@@ -12,30 +12,30 @@ use Rattle.pt_image.specs.declared.Point.{Point}
 use Rattle.pt_image.specs.declared.Parts.{Parts}
 use Rattle.pt_image.specs.Ranges.{places_of, IsImage}
 use Rattle.pt_image.specs.Listed.{is_listed, is_point, same_numbers}
-use Rattle.mb_step.specs.Tick.{base_of}
+use Rattle.mb_isa.specs.Tick.{base_of}
 use Rattle.tk_cert.specs.declared.cert.Line.{Line}
 use Rattle.tk_cert.specs.declared.cert.Line.TheVariants.{Bare, Thread, Routine, Cond}
 use Rattle.tk_cert.specs.declared.cert.CertParts.{CertParts}
 use Rattle.tk_cert.specs.Shapes.{IsShaped, RiseFrom, IsCert}
 use Rattle.tk_cert.specs.Demands.{shape_demand, AllHold}
-use Rattle.tk_bound.specs.declared.view.Side.{Side}
-use Rattle.tk_bound.specs.declared.word.Word.TheVariants.{Eot, Fork}
-use Rattle.tk_bound.specs.Words.{instr_at, word_of, read_instr, read}
-use Rattle.tk_bound.specs.Kinds.{line_at, is_thread, is_cond, upper_at, word_at, places_of as code_places, start_of, points_at, asked_from_line, asked_from, asked, is_asked}
-use Rattle.tk_bound.specs.Shape.{is_pause_word, is_fork_word, in_thread, children_start, keeps_kind, word_is_shaped, says_well, line_is_shaped, pause_is_shaped, fork_is_shaped, place_is_shaped, shape, apart}
-use Rattle.tk_bound.specs.Sums.{greater, greatest as greatest_of}
-use Rattle.tk_bound.specs.Acceptance.{resumed, line_edges, edges, pauses, forks, resuming, bounded}
-use Rattle.tk_bound.specs.Bounded.{IsAcceptedFor}
-use Rattle.tk_bound.proofs.Lists.{IsAmong, any-passes, all-left, all-right, all-map, three_parts}
-use Rattle.tk_bound.proofs.Accepts.{nothing}
-use Rattle.tk_bound.proofs.Carried.{same-list, lt-true}
+use Rattle.tk_paths.specs.declared.view.Side.{Side}
+use Rattle.tk_paths.specs.declared.word.Word.TheVariants.{Eot, Fork}
+use Rattle.tk_paths.specs.Words.{instr_at, word_of, read_instr, read}
+use Rattle.tk_paths.specs.Kinds.{line_at, is_thread, is_cond, upper_at, word_at, places_of as code_places, start_of, points_at, asked_from_line, asked_from, asked, is_asked}
+use Rattle.tk_paths.specs.Shape.{is_pause_word, is_fork_word, in_thread, children_start, keeps_kind, word_is_shaped, says_well, line_is_shaped, pause_is_shaped, fork_is_shaped, place_is_shaped, shape, apart}
+use Rattle.tk_paths.specs.Sums.{greater, greatest as greatest_of}
+use Rattle.tk_paths.specs.Acceptance.{resumed, line_edges, edges, pauses, forks, resuming, bounded}
+use Rattle.tk_paths.specs.Bounded.{IsAcceptedFor}
+use Rattle.tk_paths.proofs.Lists.{IsAmong, any-passes, all-left, all-right, all-map, three_parts}
+use Rattle.tk_paths.proofs.Accepts.{nothing}
+use Rattle.tk_paths.proofs.Carried.{same-list, lt-true}
 use Rattle.tk_paths.specs.Reached.{IsOpen}
 use Rattle.tk_paths.specs.Regions.{Region}
 use Rattle.tk_paths.specs.Greatest.{best, paused, waited, beginnings, IsStraightCondition, IsGreatest}
 use Rattle.tk_paths.proofs.Covered.{all-append, all-flat-in, among-picked, Holding, covered as beginnings-covered}
 use Rattle.tk_paths.proofs.Lines.{own-thread}
-use Rattle.tk_paths.proofs.Steps.{IsStepWith, great-of}
-use Rattle.tk_paths.proofs.Places.{and-two, among-either, IsPlain, Unasked, IsGood}
+use Rattle.tk_paths.proofs.OpenPlaces.{IsStepWith, great-of}
+use Rattle.tk_paths.proofs.PlaceLaws.{and-two, among-either, IsPlain, Unasked, IsGood}
 use Rattle.tk_paths.proofs.Rested.{rests-covered}
 
 -- ---- lists

@@ -7,22 +7,22 @@ use Rattle.mb_pfu.specs.declared.parts.Watch.{Watch}
 use Rattle.mb_pfu.specs.Rows.{renewed}
 use Rattle.pt_image.specs.declared.Parts.{Parts}
 use Rattle.tk_cert.specs.declared.cert.CertParts.{CertParts}
-use Rattle.tk_bound.specs.declared.view.Side.{Side}
-use Rattle.tk_bound.specs.Sums.{greater}
-use Rattle.tk_bound.specs.Words.{instr_at}
-use Rattle.tk_bound.specs.Kinds.{abort_at}
-use Rattle.tk_bound.specs.Acceptance.{value}
-use Rattle.tk_bound.proofs.Inner.{Image}
-use Rattle.tk_bound.proofs.Conditions.{Cert, AreAborts, IsAccepted}
-use Rattle.tk_bound.proofs.Carried.{image_of, cert_of}
-use Rattle.tk_bound.proofs.Accepts.{Accepts}
-use Rattle.tk_bound.proofs.Controls.{sums}
+use Rattle.tk_paths.specs.declared.view.Side.{Side}
+use Rattle.tk_paths.specs.Sums.{greater}
+use Rattle.tk_paths.specs.Words.{instr_at}
+use Rattle.tk_paths.specs.Kinds.{abort_at}
+use Rattle.tk_paths.specs.Acceptance.{value}
+use Rattle.tk_paths.proofs.Inner.{Image}
+use Rattle.tk_paths.proofs.Conditions.{Cert, AreAborts, IsAccepted}
+use Rattle.tk_paths.proofs.Carried.{image_of, cert_of}
+use Rattle.tk_paths.proofs.Accepts.{Accepts}
+use Rattle.tk_paths.proofs.Controls.{sums}
 use Rattle.tk_paths.specs.Reached.{IsOpen}
 use Rattle.tk_paths.specs.Regions.{Region}
 use Rattle.tk_paths.specs.Greatest.{num, tested}
 use Rattle.tk_paths.specs.Choices.{bare_of, is_second, Plan, holding}
 use Rattle.tk_paths.specs.Dearest.{cut_plan}
-use Rattle.tk_paths.proofs.Steps.{IsStepWith}
+use Rattle.tk_paths.proofs.OpenPlaces.{IsStepWith}
 use Rattle.tk_paths.proofs.Flags.{made, made-more, AreFlags, split}
 use Rattle.tk_paths.proofs.MaxPlus.{more-is}
 use Rattle.tk_paths.proofs.Extracts.{append-one, length-last}

@@ -9,31 +9,31 @@ use Rattle.mb_pfu.specs.Tree.{Running, Finished, Tree, Group, Leaf, Waits, no_mo
 use Rattle.mb_pfu.specs.Unit.{State}
 use Rattle.mb_pfu.specs.declared.TrapKind.TheVariants.{Late}
 use Rattle.pt_image.specs.declared.Parts.{Parts}
-use Rattle.mb_step.specs.Control.{tests_on}
-use Rattle.mb_step.specs.Step.{samples_from, samples_on}
-use Rattle.mb_step.specs.Free.{free, IsConfigured, IsConfiguration, IsLoose}
-use Rattle.mb_step.specs.Tick.{Outcome, Ends, Trapped, base_of, begun, run, tick}
-use Rattle.mb_step.proofs.Turning.{is_over, path-runs}
+use Rattle.mb_isa.specs.Control.{tests_on}
+use Rattle.mb_isa.specs.Step.{samples_from, samples_on}
+use Rattle.mb_isa.specs.Free.{free, IsConfigured, IsConfiguration, IsLoose}
+use Rattle.mb_isa.specs.Tick.{Outcome, Ends, Trapped, base_of, begun, run, tick}
+use Rattle.mb_isa.proofs.Turning.{is_over, path-runs}
 use Rattle.tk_cert.specs.declared.cert.Walk.{Walk}
 use Rattle.tk_cert.specs.declared.cert.CertParts.{CertParts}
-use Rattle.tk_bound.specs.declared.view.Side.{Side}
-use Rattle.tk_bound.specs.declared.view.Side.TheVariants.{ToEnd}
-use Rattle.tk_bound.specs.declared.word.Word.TheVariants.{Fork}
-use Rattle.tk_bound.specs.Kinds.{start_of}
-use Rattle.tk_bound.specs.Bounded.{IsFreelyWithin, IsAcceptedFor}
-use Rattle.tk_bound.specs.Walks.{most_cycles, states_of, IsCostOf, IsWorst}
-use Rattle.tk_bound.proofs.Inner.{Image, stack}
-use Rattle.tk_bound.proofs.Conditions.{Cert, Thread, IsFine, IsAccepted}
-use Rattle.tk_bound.proofs.Carried.{image_of, cert_of}
-use Rattle.tk_bound.proofs.Accepts.{Accepts}
-use Rattle.tk_bound.proofs.Controls.{sums}
-use Rattle.tk_bound.proofs.Settles.{word-of, read-plain}
-use Rattle.tk_bound.proofs.Rights.{IsWaiting, IsRight, AreRight}
-use Rattle.tk_bound.proofs.Sounds.{one-same, one-other, below, slot_in}
-use Rattle.tk_bound.proofs.Tests.{wakes-right}
-use Rattle.tk_bound.proofs.Begins.{begun-testing}
-use Rattle.tk_bound.proofs.Whole.{each-tally, begun-kept}
-use Rattle.tk_bound.proofs.Bounds.{loose-is, configured, accepts-of, bounds-free}
+use Rattle.tk_paths.specs.declared.view.Side.{Side}
+use Rattle.tk_paths.specs.declared.view.Side.TheVariants.{ToEnd}
+use Rattle.tk_paths.specs.declared.word.Word.TheVariants.{Fork}
+use Rattle.tk_paths.specs.Kinds.{start_of}
+use Rattle.tk_paths.specs.Bounded.{IsFreelyWithin, IsAcceptedFor}
+use Rattle.tk_paths.specs.Walks.{most_cycles, states_of, IsCostOf, IsWorst}
+use Rattle.tk_paths.proofs.Inner.{Image, stack}
+use Rattle.tk_paths.proofs.Conditions.{Cert, Thread, IsFine, IsAccepted}
+use Rattle.tk_paths.proofs.Carried.{image_of, cert_of}
+use Rattle.tk_paths.proofs.Accepts.{Accepts}
+use Rattle.tk_paths.proofs.Controls.{sums}
+use Rattle.tk_paths.proofs.Settles.{word-of, read-plain}
+use Rattle.tk_paths.proofs.Rights.{IsWaiting, IsRight, AreRight}
+use Rattle.tk_paths.proofs.Sounds.{one-same, one-other, below, slot_in}
+use Rattle.tk_paths.proofs.Tests.{wakes-right}
+use Rattle.tk_paths.proofs.Begins.{begun-testing}
+use Rattle.tk_paths.proofs.Whole.{each-tally, begun-kept}
+use Rattle.tk_paths.proofs.Bounds.{loose-is, configured, accepts-of, bounds-free}
 use Rattle.tk_paths.specs.Tight.{Top, over, starts, resumes, IsTight}
 use Rattle.tk_paths.proofs.Ways.{Way}
 use Rattle.tk_paths.proofs.Flags.{made}

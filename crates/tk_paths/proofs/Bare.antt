@@ -5,11 +5,11 @@ use Rattle.mb_isa.specs.declared.Instr.TheVariants as instr
 use Rattle.pt_image.specs.declared.Point.{Point}
 use Rattle.pt_image.specs.declared.Parts.{Parts}
 use Rattle.tk_cert.specs.declared.cert.CertParts.{CertParts}
-use Rattle.tk_bound.specs.declared.view.Side.{Side}
-use Rattle.tk_bound.specs.Sums.{plus, greater, all_ends, most_paused}
-use Rattle.tk_bound.specs.Words.{instr_at}
-use Rattle.tk_bound.specs.Kinds.{abort_at}
-use Rattle.tk_bound.specs.Acceptance.{value, begins, more}
+use Rattle.tk_paths.specs.declared.view.Side.{Side}
+use Rattle.tk_paths.specs.Sums.{plus, greater, all_ends, most_paused}
+use Rattle.tk_paths.specs.Words.{instr_at}
+use Rattle.tk_paths.specs.Kinds.{abort_at}
+use Rattle.tk_paths.specs.Acceptance.{value, begins, more}
 use Rattle.tk_paths.specs.Greatest.{stays, where_some, best, num, handlers, resting, grouping, tested, paused, waited_by, waited, ending_sum, pausing_sum, joined}
 use Rattle.tk_paths.specs.Choices.{bare_of}
 

@@ -14,26 +14,26 @@ use Rattle.pt_image.specs.declared.Parts.{Parts}
 use Rattle.pt_image.specs.Listed.{is_listed}
 use Rattle.pt_image.specs.Ranges.{IsPoint}
 use Rattle.tk_cert.specs.declared.cert.CertParts.{CertParts}
-use Rattle.mb_step.specs.Free.{IsLoose, AreAtRest, HasLoose}
-use Rattle.tk_bound.specs.declared.view.Side.{Side}
-use Rattle.tk_bound.specs.declared.view.Side.TheVariants.{ToPause, ToEnd}
-use Rattle.tk_bound.specs.declared.word.Word.TheVariants.{Eot, Fork}
-use Rattle.tk_bound.specs.Sums.{plus, greater, or_zero, and_more, resumed_ends, resumed_most, resumed_paused}
-use Rattle.tk_bound.specs.Words.{instr_at, read_instr}
-use Rattle.tk_bound.specs.Acceptance.{resumed}
-use Rattle.tk_bound.proofs.Inner.{Image}
-use Rattle.tk_bound.proofs.Conditions.{Cert, Thread, IsFine, AreAborts, IsAccepted}
-use Rattle.tk_bound.proofs.Lists.{IsAmong, all-among}
-use Rattle.tk_bound.proofs.Carried.{image_of, cert_of}
-use Rattle.tk_bound.proofs.Accepts.{Accepts}
-use Rattle.tk_bound.proofs.Controls.{sums}
-use Rattle.tk_bound.proofs.Settles.{word-of, read-plain, aborts-of}
+use Rattle.mb_isa.specs.Free.{IsLoose, AreAtRest, HasLoose}
+use Rattle.tk_paths.specs.declared.view.Side.{Side}
+use Rattle.tk_paths.specs.declared.view.Side.TheVariants.{ToPause, ToEnd}
+use Rattle.tk_paths.specs.declared.word.Word.TheVariants.{Eot, Fork}
+use Rattle.tk_paths.specs.Sums.{plus, greater, or_zero, and_more, resumed_ends, resumed_most, resumed_paused}
+use Rattle.tk_paths.specs.Words.{instr_at, read_instr}
+use Rattle.tk_paths.specs.Acceptance.{resumed}
+use Rattle.tk_paths.proofs.Inner.{Image}
+use Rattle.tk_paths.proofs.Conditions.{Cert, Thread, IsFine, AreAborts, IsAccepted}
+use Rattle.tk_paths.proofs.Lists.{IsAmong, all-among}
+use Rattle.tk_paths.proofs.Carried.{image_of, cert_of}
+use Rattle.tk_paths.proofs.Accepts.{Accepts}
+use Rattle.tk_paths.proofs.Controls.{sums}
+use Rattle.tk_paths.proofs.Settles.{word-of, read-plain, aborts-of}
 use Rattle.tk_paths.specs.Reached.{IsOpen, both_sides}
 use Rattle.tk_paths.specs.Regions.{Region}
 use Rattle.tk_paths.specs.Greatest.{where_some, best, num, resting, tested, paused, waited_by, waited, ending_sum, pausing_sum}
 use Rattle.tk_paths.specs.Choices.{bare_of, is_second, Plan, resting_plan}
 use Rattle.tk_paths.specs.Dearest.{Begun, Begun_group, ended_slot, one_more, resumed_child, plan_or, entries, cut_plan, pause_begun, ended_group, most_group, paused_group, waiting, fork_begun, fork_begun_by, best_begun, slot_begun}
-use Rattle.tk_paths.proofs.Steps.{IsStepWith}
+use Rattle.tk_paths.proofs.OpenPlaces.{IsStepWith}
 use Rattle.tk_paths.proofs.Flags.{new_entry, made, made-nil}
 use Rattle.tk_paths.proofs.Moves.{there}
 use Rattle.tk_paths.proofs.MaxPlus.{plus-is}

@@ -12,19 +12,19 @@ use Rattle.pt_image.specs.declared.Parts.{Parts}
 use Rattle.pt_image.specs.Listed.{is_listed}
 use Rattle.tk_cert.specs.declared.cert.CertParts.{CertParts}
 use Rattle.tk_cert.specs.Demands.{AllHold, at_least}
-use Rattle.tk_bound.specs.declared.view.Side.{Side}
-use Rattle.tk_bound.specs.declared.view.Side.TheVariants.{ToPause, ToEnd}
-use Rattle.tk_bound.specs.declared.view.View.{View}
-use Rattle.tk_bound.specs.declared.view.View.TheVariants.{On, Value}
-use Rattle.tk_bound.specs.declared.word.Word.{Word}
-use Rattle.tk_bound.specs.declared.word.Word.TheVariants.{Jump, Branch, Fork, Eot, End, Abrt, Leave}
-use Rattle.tk_bound.specs.Sums.{plus, greater, all_ends, most_paused}
-use Rattle.tk_bound.specs.Words.{instr_at, read_instr, read}
-use Rattle.tk_bound.specs.Kinds.{line_at, is_thread, is_cond, start_of, abort_at, place_in}
-use Rattle.tk_bound.specs.Shape.{on_last, children_start, keeps_kind}
-use Rattle.tk_bound.specs.Acceptance.{on_side, level_of, number, begins, more, left_view, edge}
-use Rattle.tk_bound.proofs.Lists.{IsAmong}
-use Rattle.tk_bound.proofs.Carried.{le-test}
+use Rattle.tk_paths.specs.declared.view.Side.{Side}
+use Rattle.tk_paths.specs.declared.view.Side.TheVariants.{ToPause, ToEnd}
+use Rattle.tk_paths.specs.declared.view.View.{View}
+use Rattle.tk_paths.specs.declared.view.View.TheVariants.{On, Value}
+use Rattle.tk_paths.specs.declared.word.Word.{Word}
+use Rattle.tk_paths.specs.declared.word.Word.TheVariants.{Jump, Branch, Fork, Eot, End, Abrt, Leave}
+use Rattle.tk_paths.specs.Sums.{plus, greater, all_ends, most_paused}
+use Rattle.tk_paths.specs.Words.{instr_at, read_instr, read}
+use Rattle.tk_paths.specs.Kinds.{line_at, is_thread, is_cond, start_of, abort_at, place_in}
+use Rattle.tk_paths.specs.Shape.{on_last, children_start, keeps_kind}
+use Rattle.tk_paths.specs.Acceptance.{on_side, level_of, number, begins, more, left_view, edge}
+use Rattle.tk_paths.proofs.Lists.{IsAmong}
+use Rattle.tk_paths.proofs.Carried.{le-test}
 use Rattle.tk_paths.specs.Regions.{Region, behind, IsWord, extra}
 use Rattle.tk_paths.specs.Greatest.{stays, handlers, resting}
 use Rattle.tk_paths.specs.Codes.{Code, Passed, Sequence, Either, Turns, Forever, Resting, Forking, Guarded, entry, exit, EachCall, can_end, IsLasting, IsLaidIn}
@@ -32,9 +32,9 @@ use Rattle.tk_paths.specs.Numbers.{Kind, thread, Numbers, level, nothing, Handle
 use Rattle.tk_paths.specs.Numbers as numbers
 use Rattle.tk_paths.proofs.Covered.{Covers, holds-of}
 use Rattle.tk_paths.proofs.Lines.{Fits, IsFull, There, line-same, own-thread, at-left, at-right, append-size, map-size}
-use Rattle.tk_paths.proofs.Steps.{IsStepWith}
+use Rattle.tk_paths.proofs.OpenPlaces.{IsStepWith}
 use Rattle.tk_paths.proofs.Listing.{AreListed}
-use Rattle.tk_paths.proofs.Places.{and-two, lt-test, among-either, Every, every-one, every-join, IsPlain, plain-next, unit-plain, AreAborts, Known, place-good, numbered, edge-holds, itself, full-after, unit-first}
+use Rattle.tk_paths.proofs.PlaceLaws.{and-two, lt-test, among-either, Every, every-one, every-join, IsPlain, plain-next, unit-plain, AreAborts, Known, place-good, numbered, edge-holds, itself, full-after, unit-first}
 use Rattle.tk_paths.proofs.UnitLaws.{more-more, there-more, size-join, unit-size, test-size, At, Good, On_line, moved, same-numbers, test-first, keeps, jump-law, test-law}
 use Rattle.tk_paths.proofs.Insides.{last-added, length-last, size-from, size-one, region-size}
 use Rattle.tk_paths.proofs.RegionLaws.{region-plain, region-first, IsCalled, AreWeighed, region-law}

@@ -4,12 +4,12 @@ use Rattle.mb_isa.specs.declared.Class.{Class}
 use Rattle.mb_isa.specs.declared.Class.TheVariants as class
 use Rattle.mb_isa.specs.Costs.{cost_of}
 use Rattle.pt_image.specs.declared.Parts.{Parts}
-use Rattle.tk_bound.specs.declared.view.Side.{Side}
-use Rattle.tk_bound.specs.declared.view.Side.TheVariants.{ToPause, ToEnd}
-use Rattle.tk_bound.specs.declared.view.View.TheVariants.{On, Value}
-use Rattle.tk_bound.specs.Sums.{plus, greater, all_ends, most, most_paused}
-use Rattle.tk_bound.specs.Kinds.{abort_at}
-use Rattle.tk_bound.specs.Acceptance.{on_side}
+use Rattle.tk_paths.specs.declared.view.Side.{Side}
+use Rattle.tk_paths.specs.declared.view.Side.TheVariants.{ToPause, ToEnd}
+use Rattle.tk_paths.specs.declared.view.View.TheVariants.{On, Value}
+use Rattle.tk_paths.specs.Sums.{plus, greater, all_ends, most, most_paused}
+use Rattle.tk_paths.specs.Kinds.{abort_at}
+use Rattle.tk_paths.specs.Acceptance.{on_side}
 use Rattle.tk_paths.specs.Regions.{behind, extra, units_cost}
 use Rattle.tk_paths.specs.Greatest.{stays}
 use Rattle.tk_paths.specs.Codes.{Code, Passed, Sequence, Either, Turns, Forever, Resting, Forking, Guarded, entry, exit, IsLaidIn}

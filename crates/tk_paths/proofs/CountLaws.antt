@@ -15,15 +15,15 @@ use Rattle.tk_cert.specs.declared.cert.Line.{Line}
 use Rattle.tk_cert.specs.declared.cert.Line.TheVariants as line
 use Rattle.tk_cert.specs.declared.cert.Walk.{Walk}
 use Rattle.tk_cert.specs.declared.cert.CertParts.{CertParts}
-use Rattle.tk_bound.specs.declared.view.Side.{Side}
-use Rattle.tk_bound.specs.declared.view.Side.TheVariants.{ToPause, ToEnd}
-use Rattle.tk_bound.specs.declared.view.View.TheVariants.{On, Value}
-use Rattle.tk_bound.specs.Sums.{plus, greater, or_zero, and_more, resumed_ends, resumed_most, resumed_paused, greatest}
-use Rattle.tk_bound.specs.Words.{instr_at}
-use Rattle.tk_bound.specs.Kinds.{line_at, start_of, abort_at}
-use Rattle.tk_bound.specs.Shape.{children_at, children_in}
-use Rattle.tk_bound.specs.Acceptance.{on_side, value_of, number_in, value, resumed, begins, more}
-use Rattle.tk_bound.proofs.Lists.{IsAmong, index-among, all-among}
+use Rattle.tk_paths.specs.declared.view.Side.{Side}
+use Rattle.tk_paths.specs.declared.view.Side.TheVariants.{ToPause, ToEnd}
+use Rattle.tk_paths.specs.declared.view.View.TheVariants.{On, Value}
+use Rattle.tk_paths.specs.Sums.{plus, greater, or_zero, and_more, resumed_ends, resumed_most, resumed_paused, greatest}
+use Rattle.tk_paths.specs.Words.{instr_at}
+use Rattle.tk_paths.specs.Kinds.{line_at, start_of, abort_at}
+use Rattle.tk_paths.specs.Shape.{children_at, children_in}
+use Rattle.tk_paths.specs.Acceptance.{on_side, value_of, number_in, value, resumed, begins, more}
+use Rattle.tk_paths.proofs.Lists.{IsAmong, index-among, all-among}
 use Rattle.tk_paths.specs.Greatest.{stays, where_some, best, num, handlers, resting, tested, paused, ending_sum, pausing_sum, waited_by, waited, beginnings}
 use Rattle.tk_paths.specs.Codes.{Code, IsLaidIn}
 use Rattle.tk_paths.specs.Numbers.{Numbers, thread, routine, condition, level, just, entered, units_lines, region_lines, code_lines, region_weights, code_weights}
@@ -33,7 +33,7 @@ use Rattle.tk_paths.specs.Counts.{Below, ArePairBelow, Within, words_most, total
 use Rattle.tk_paths.proofs.Covered.{all-append}
 use Rattle.tk_paths.proofs.Ranges.{AreBelow, below-more, below-greater, below-plus, below-none, below-some, below-wider, AllWithin, line-within, all-wider, AreLight, light-wider, units-most, units-within, region-within, region-light}
 use Rattle.tk_paths.proofs.CodeRanges.{begins-below, lines-below, code-light}
-use Rattle.tk_paths.proofs.Places.{level-number}
+use Rattle.tk_paths.proofs.PlaceLaws.{level-number}
 use Rattle.tk_paths.proofs.Starts.{side-of, starts-are}
 use Rattle.tk_paths.proofs.Sections.{C, S, SectionAt, all-in, all-at, thread-at, code-of, start-line}
 use Rattle.tk_paths.proofs.SlotLaws.{get-past}

@@ -8,18 +8,18 @@ use Rattle.mb_isa.specs.declared.Instr.{Instr}
 use Rattle.mb_isa.specs.declared.Instr.TheVariants as instr
 use Rattle.pt_image.specs.declared.Point.{Point}
 use Rattle.pt_image.specs.declared.Parts.{Parts}
-use Rattle.mb_step.specs.Tick.{base_of}
+use Rattle.mb_isa.specs.Tick.{base_of}
 use Rattle.tk_cert.specs.declared.cert.CertParts.{CertParts}
 use Rattle.tk_cert.specs.Demands.{Demand, at_least, reaches, AllHold}
-use Rattle.tk_bound.specs.declared.view.Side.{Side}
-use Rattle.tk_bound.specs.declared.view.Side.TheVariants.{ToPause, ToEnd}
-use Rattle.tk_bound.specs.Sums.{plus, greater, or_zero, and_more, resumed_most, greatest}
-use Rattle.tk_bound.specs.Words.{instr_at}
-use Rattle.tk_bound.specs.Kinds.{abort_at, points_at, places_of}
-use Rattle.tk_bound.specs.Shape.{children_in, children_at}
-use Rattle.tk_bound.specs.Acceptance.{value, resumed, begins, more, strong_handlers, weak_handlers, conditions, resumes, resumed_strong, pause_resumes, resumed_handlers, resumed_join, has_resumed, fork_resumes, resuming, bounded}
-use Rattle.tk_bound.proofs.Lists.{IsAmong}
-use Rattle.tk_bound.proofs.Carried.{le-test}
+use Rattle.tk_paths.specs.declared.view.Side.{Side}
+use Rattle.tk_paths.specs.declared.view.Side.TheVariants.{ToPause, ToEnd}
+use Rattle.tk_paths.specs.Sums.{plus, greater, or_zero, and_more, resumed_most, greatest}
+use Rattle.tk_paths.specs.Words.{instr_at}
+use Rattle.tk_paths.specs.Kinds.{abort_at, points_at, places_of}
+use Rattle.tk_paths.specs.Shape.{children_in, children_at}
+use Rattle.tk_paths.specs.Acceptance.{value, resumed, begins, more, strong_handlers, weak_handlers, conditions, resumes, resumed_strong, pause_resumes, resumed_handlers, resumed_join, has_resumed, fork_resumes, resuming, bounded}
+use Rattle.tk_paths.proofs.Lists.{IsAmong}
+use Rattle.tk_paths.proofs.Carried.{le-test}
 use Rattle.tk_paths.specs.Greatest.{stays, where_some, best, num, handlers, resting, tested, paused, ending_sum, pausing_sum, joined, waited_by, waited, IsGreatest}
 
 -- a number reaches another, where that one is there

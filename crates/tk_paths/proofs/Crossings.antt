@@ -6,8 +6,8 @@ use Rattle.mb_isa.specs.declared.Class.TheVariants as class
 use Rattle.mb_isa.specs.Costs.{cost_of}
 use Rattle.mb_pfu.specs.Unit.{State}
 use Rattle.pt_image.specs.declared.Parts.{Parts}
-use Rattle.mb_step.specs.Control.{Control, Turn, goes}
-use Rattle.tk_bound.specs.declared.word.Word.TheVariants.{Jump, Branch}
+use Rattle.mb_isa.specs.Control.{Control, Turn, goes}
+use Rattle.tk_paths.specs.declared.word.Word.TheVariants.{Jump, Branch}
 use Rattle.tk_paths.specs.Passages.{Leads, Passage}
 use Rattle.tk_paths.specs.Regions.{Region, Words, Then, Choice, Counted, Repeated, Calling, from, to, links_in, counters_in, half, word_place, behind, IsUnit, AreUnits, IsLaid, extra, units_cost, test_cost, tested_turn, plain_turn, leaving, through, times, dearest_way, Crossing}
 use Rattle.tk_paths.proofs.Moves.{no-lead, joined-leads, costing}

@@ -12,30 +12,30 @@ use Rattle.mb_pfu.specs.Unit.{State}
 use Rattle.mb_pfu.specs.declared.TrapKind.TheVariants.{Late}
 use Rattle.pt_image.specs.declared.Parts.{Parts}
 use Rattle.pt_image.specs.Ranges.{IsImage}
-use Rattle.mb_step.specs.Control.{Condition, goes, tests_on, answered}
-use Rattle.mb_step.specs.Step.{samples_on}
-use Rattle.mb_step.specs.Free.{free, IsConfiguration}
-use Rattle.mb_step.specs.Tick.{Outcome, Ends, Trapped, Steps, base_of, begun, run, tick}
-use Rattle.mb_step.proofs.Turning.{is_over, path-runs}
+use Rattle.mb_isa.specs.Control.{Condition, goes, tests_on, answered}
+use Rattle.mb_isa.specs.Step.{samples_on}
+use Rattle.mb_isa.specs.Free.{free, IsConfiguration}
+use Rattle.mb_isa.specs.Tick.{Outcome, Ends, Trapped, Steps, base_of, begun, run, tick}
+use Rattle.mb_isa.proofs.Turning.{is_over, path-runs}
 use Rattle.std.specs.List.{AllByRecursion}
 use Rattle.tk_cert.specs.Form.{IsState, IsWalk}
 use Rattle.tk_cert.specs.declared.cert.State.{State as WalkState}
 use Rattle.tk_cert.specs.declared.cert.Walk.{Walk}
 use Rattle.tk_cert.specs.declared.cert.CertParts.{CertParts}
-use Rattle.tk_bound.specs.declared.view.Side.{Side}
-use Rattle.tk_bound.specs.declared.view.Side.TheVariants.{ToPause, ToEnd}
-use Rattle.tk_bound.specs.Sums.{greater, greatest}
-use Rattle.tk_bound.specs.Words.{instr_at}
-use Rattle.tk_bound.specs.Kinds.{line_at, is_cond, upper_at, start_of}
-use Rattle.tk_bound.specs.Acceptance.{value, resumed, begins}
-use Rattle.tk_bound.specs.Walks.{most_cycles, states_of, IsCostOf}
-use Rattle.tk_bound.proofs.Inner.{Image}
-use Rattle.tk_bound.proofs.Conditions.{Cert, IsAccepted}
-use Rattle.tk_bound.proofs.Carried.{image_of, cert_of}
-use Rattle.tk_bound.proofs.Accepts.{Accepts}
-use Rattle.tk_bound.proofs.Controls.{sums}
-use Rattle.tk_bound.proofs.Whole.{begun-kept}
-use Rattle.tk_bound.proofs.Bounds.{configured, accepts-of}
+use Rattle.tk_paths.specs.declared.view.Side.{Side}
+use Rattle.tk_paths.specs.declared.view.Side.TheVariants.{ToPause, ToEnd}
+use Rattle.tk_paths.specs.Sums.{greater, greatest}
+use Rattle.tk_paths.specs.Words.{instr_at}
+use Rattle.tk_paths.specs.Kinds.{line_at, is_cond, upper_at, start_of}
+use Rattle.tk_paths.specs.Acceptance.{value, resumed, begins}
+use Rattle.tk_paths.specs.Walks.{most_cycles, states_of, IsCostOf}
+use Rattle.tk_paths.proofs.Inner.{Image}
+use Rattle.tk_paths.proofs.Conditions.{Cert, IsAccepted}
+use Rattle.tk_paths.proofs.Carried.{image_of, cert_of}
+use Rattle.tk_paths.proofs.Accepts.{Accepts}
+use Rattle.tk_paths.proofs.Controls.{sums}
+use Rattle.tk_paths.proofs.Whole.{begun-kept}
+use Rattle.tk_paths.proofs.Bounds.{configured, accepts-of}
 use Rattle.tk_paths.specs.Reached.{IsOpen}
 use Rattle.tk_paths.specs.Regions.{Region, units_cost}
 use Rattle.tk_paths.specs.Greatest.{best, paused, waited, beginnings, IsStraightCondition}
@@ -44,7 +44,7 @@ use Rattle.tk_paths.specs.Choices.{is_second, Plan, bare_of, plan}
 use Rattle.tk_paths.specs.Dearest.{Begun, ended_slot, slot_begun, start_begun, dearest_walk, find_piece, told, walk_of}
 use Rattle.tk_paths.proofs.Moves.{joined-leads, steps-count}
 use Rattle.tk_paths.proofs.Units.{cend-step, word-lead, units-lead}
-use Rattle.tk_paths.proofs.Steps.{IsStepWith}
+use Rattle.tk_paths.proofs.OpenPlaces.{IsStepWith}
 use Rattle.tk_paths.proofs.Routes.{Route}
 use Rattle.tk_paths.proofs.RouteWalks.{Walked}
 use Rattle.tk_paths.proofs.RouteTests.{IsAsked, TWVal, joined-walk}

@@ -7,19 +7,19 @@ use Rattle.mb_isa.specs.Costs.{IsCosts}
 use Rattle.mb_pfu.specs.declared.parts.Watch.{Watch}
 use Rattle.pt_image.specs.declared.Parts.{Parts}
 use Rattle.tk_cert.specs.declared.cert.CertParts.{CertParts}
-use Rattle.tk_bound.specs.declared.view.Side.{Side}
-use Rattle.tk_bound.specs.declared.view.Side.TheVariants.{ToPause, ToEnd}
-use Rattle.tk_bound.specs.declared.word.Word.{Word}
-use Rattle.tk_bound.specs.declared.word.Word.TheVariants.{Fork, Abrt, Leave}
-use Rattle.tk_bound.specs.Words.{read_instr}
-use Rattle.tk_bound.specs.Kinds.{start_of, abort_at}
-use Rattle.tk_bound.proofs.Slots.{without_last}
-use Rattle.tk_bound.proofs.Inner.{Image}
-use Rattle.tk_bound.proofs.Conditions.{Cert, Thread, IsAt, AreAborts, IsFine, IsAccepted}
-use Rattle.tk_bound.proofs.Carried.{image_of, cert_of}
-use Rattle.tk_bound.proofs.Accepts.{Accepts}
-use Rattle.tk_bound.proofs.Controls.{sums}
-use Rattle.tk_bound.proofs.Settles.{word-of, read-plain, aborts-of}
+use Rattle.tk_paths.specs.declared.view.Side.{Side}
+use Rattle.tk_paths.specs.declared.view.Side.TheVariants.{ToPause, ToEnd}
+use Rattle.tk_paths.specs.declared.word.Word.{Word}
+use Rattle.tk_paths.specs.declared.word.Word.TheVariants.{Fork, Abrt, Leave}
+use Rattle.tk_paths.specs.Words.{read_instr}
+use Rattle.tk_paths.specs.Kinds.{start_of, abort_at}
+use Rattle.tk_paths.proofs.Slots.{without_last}
+use Rattle.tk_paths.proofs.Inner.{Image}
+use Rattle.tk_paths.proofs.Conditions.{Cert, Thread, IsAt, AreAborts, IsFine, IsAccepted}
+use Rattle.tk_paths.proofs.Carried.{image_of, cert_of}
+use Rattle.tk_paths.proofs.Accepts.{Accepts}
+use Rattle.tk_paths.proofs.Controls.{sums}
+use Rattle.tk_paths.proofs.Settles.{word-of, read-plain, aborts-of}
 use Rattle.tk_paths.specs.Reached.{Has, Handled, Rests, After, Sum}
 use Rattle.tk_paths.specs.Tight.{Edge, across, entering, leaving, pausing, forking, ending, IsTight}
 use Rattle.tk_paths.proofs.Opens.{open-at, at-open}

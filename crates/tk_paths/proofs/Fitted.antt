@@ -6,13 +6,13 @@ use Rattle.pt_image.specs.declared.Parts.{Parts}
 use Rattle.pt_image.specs.Listed.{same_numbers}
 use Rattle.tk_cert.specs.declared.cert.Line.{Line}
 use Rattle.tk_cert.specs.declared.cert.Line.TheVariants as lines
-use Rattle.tk_bound.specs.declared.view.Side.{Side}
-use Rattle.tk_bound.specs.declared.view.Side.TheVariants.{ToPause, ToEnd}
-use Rattle.tk_bound.specs.Sums.{greater}
-use Rattle.tk_bound.specs.Kinds.{is_thread}
-use Rattle.tk_bound.specs.Acceptance.{stack_of}
-use Rattle.tk_bound.proofs.Lists.{three_parts}
-use Rattle.tk_bound.proofs.Carried.{same-list}
+use Rattle.tk_paths.specs.declared.view.Side.{Side}
+use Rattle.tk_paths.specs.declared.view.Side.TheVariants.{ToPause, ToEnd}
+use Rattle.tk_paths.specs.Sums.{greater}
+use Rattle.tk_paths.specs.Kinds.{is_thread}
+use Rattle.tk_paths.specs.Acceptance.{stack_of}
+use Rattle.tk_paths.proofs.Lists.{three_parts}
+use Rattle.tk_paths.proofs.Carried.{same-list}
 use Rattle.tk_paths.specs.Greatest.{stays}
 use Rattle.tk_paths.specs.Choices.{is_second, fitted}
 use Rattle.tk_paths.proofs.Flags.{made, falses}

@@ -5,9 +5,9 @@ use Rattle.mb_pfu.specs.declared.parts.Watch.{Watch}
 use Rattle.mb_pfu.specs.Rows.{relief, relief_with, with_last}
 use Rattle.mb_pfu.specs.Unit.{fresh}
 use Rattle.pt_image.specs.declared.Parts.{Parts}
-use Rattle.tk_bound.specs.Kinds.{abort_at}
-use Rattle.tk_bound.proofs.Slots.{without_last}
-use Rattle.tk_bound.proofs.Inner.{stack}
+use Rattle.tk_paths.specs.Kinds.{abort_at}
+use Rattle.tk_paths.proofs.Slots.{without_last}
+use Rattle.tk_paths.proofs.Inner.{stack}
 
 module _ (image : Parts) where
   abbrev pub aged_entry : ℕ → Bool → Watch

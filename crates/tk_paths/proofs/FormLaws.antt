@@ -11,11 +11,11 @@ use Rattle.tk_cert.specs.declared.cert.Line.{Line}
 use Rattle.tk_cert.specs.declared.cert.Line.TheVariants as line
 use Rattle.tk_cert.specs.declared.cert.Walk.{Walk}
 use Rattle.tk_cert.specs.Form.{IsOptional, ArePair, AreLoops, IsStack, IsLine, IsWeight, IsWalk, IsInForm}
-use Rattle.tk_bound.specs.declared.view.Side.{Side}
-use Rattle.tk_bound.specs.declared.view.Side.TheVariants.{ToPause, ToEnd}
-use Rattle.tk_bound.specs.declared.word.Word.{Word}
-use Rattle.tk_bound.specs.Words.{instr_in, read_instr, read}
-use Rattle.tk_bound.specs.Acceptance.{on_side}
+use Rattle.tk_paths.specs.declared.view.Side.{Side}
+use Rattle.tk_paths.specs.declared.view.Side.TheVariants.{ToPause, ToEnd}
+use Rattle.tk_paths.specs.declared.word.Word.{Word}
+use Rattle.tk_paths.specs.Words.{instr_in, read_instr, read}
+use Rattle.tk_paths.specs.Acceptance.{on_side}
 use Rattle.tk_paths.specs.Regions.{Region, Words, Then, Choice, Counted, Repeated, Calling, to, half, word_place, behind, IsLaid}
 use Rattle.tk_paths.specs.Codes.{Code, Passed, Sequence, Either, Turns, Forever, Resting, Forking, Guarded, exit, loops_in, IsLaidIn}
 use Rattle.tk_paths.specs.Numbers.{Kind, thread, routine, condition, inside, Numbers, level, nothing, just, Handler, stack_of, after, half_lines, unit_lines, units_lines, branched, jumping, jump_lines, test_lines, passing, tested_weight, plain_weight, at_next, at_test, region_lines, left, with_abort, entered, code_lines}

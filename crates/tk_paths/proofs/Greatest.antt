@@ -11,19 +11,19 @@ use Rattle.mb_isa.proofs.CostRange.{cost_of-range}
 use Rattle.pt_image.specs.declared.Point.{Point}
 use Rattle.pt_image.specs.declared.Parts.{Parts}
 use Rattle.pt_image.specs.Listed.{is_listed, is_point, same_numbers}
-use Rattle.mb_step.specs.Control.{Turn, Condition, goes, tests_on, answered}
-use Rattle.mb_step.specs.Tick.{base_of}
+use Rattle.mb_isa.specs.Control.{Turn, Condition, goes, tests_on, answered}
+use Rattle.mb_isa.specs.Tick.{base_of}
 use Rattle.tk_cert.specs.declared.cert.CertParts.{CertParts}
-use Rattle.tk_bound.specs.declared.view.Side.{Side}
-use Rattle.tk_bound.specs.declared.view.Side.TheVariants.{ToPause, ToEnd}
-use Rattle.tk_bound.specs.declared.word.Word.TheVariants.{Jump, Branch}
-use Rattle.tk_bound.specs.Sums.{plus, greater, all_ends, most_paused, greatest}
-use Rattle.tk_bound.specs.Words.{instr_at}
-use Rattle.tk_bound.specs.Kinds.{abort_at}
-use Rattle.tk_bound.specs.Acceptance.{value, resumed, begins, more}
-use Rattle.tk_bound.specs.Bounded.{IsAcceptedFor}
-use Rattle.tk_bound.specs.Walks.{most_cycles, IsWorst}
-use Rattle.tk_bound.proofs.Lists.{IsAmong, passes-any}
+use Rattle.tk_paths.specs.declared.view.Side.{Side}
+use Rattle.tk_paths.specs.declared.view.Side.TheVariants.{ToPause, ToEnd}
+use Rattle.tk_paths.specs.declared.word.Word.TheVariants.{Jump, Branch}
+use Rattle.tk_paths.specs.Sums.{plus, greater, all_ends, most_paused, greatest}
+use Rattle.tk_paths.specs.Words.{instr_at}
+use Rattle.tk_paths.specs.Kinds.{abort_at}
+use Rattle.tk_paths.specs.Acceptance.{value, resumed, begins, more}
+use Rattle.tk_paths.specs.Bounded.{IsAcceptedFor}
+use Rattle.tk_paths.specs.Walks.{most_cycles, IsWorst}
+use Rattle.tk_paths.proofs.Lists.{IsAmong, passes-any}
 use Rattle.tk_paths.specs.Passages.{Passage, Asked}
 use Rattle.tk_paths.specs.Reached.{Has, Handled, Rests, Sum, Resumes, Resumed, Tested}
 use Rattle.tk_paths.specs.Tight.{Edge, across, Joined, Resumption, at_pause, at_fork, Top, over, starts, resumes, IsTight}

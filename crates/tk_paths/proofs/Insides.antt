@@ -6,17 +6,17 @@ use Rattle.mb_isa.specs.declared.Class.TheVariants as class
 use Rattle.mb_isa.specs.Costs.{cost_of}
 use Rattle.mb_pfu.specs.Calls.{last_from, last_of}
 use Rattle.pt_image.specs.declared.Parts.{Parts}
-use Rattle.tk_bound.specs.declared.view.View.{View}
-use Rattle.tk_bound.specs.declared.view.View.TheVariants.{On, Value}
-use Rattle.tk_bound.specs.Sums.{greater, lowered}
-use Rattle.tk_bound.specs.Shape.{may_loop}
-use Rattle.tk_bound.specs.Acceptance.{more}
+use Rattle.tk_paths.specs.declared.view.View.{View}
+use Rattle.tk_paths.specs.declared.view.View.TheVariants.{On, Value}
+use Rattle.tk_paths.specs.Sums.{greater, lowered}
+use Rattle.tk_paths.specs.Shape.{may_loop}
+use Rattle.tk_paths.specs.Acceptance.{more}
 use Rattle.tk_paths.specs.Regions.{Region, Words, Then, Choice, Counted, Repeated, Calling, from, to, links_in, counters_in, word_place, behind, IsLaid}
 use Rattle.tk_paths.specs.Numbers.{Kind, thread, routine, condition, inside, Numbers, just, after, next_number, unit_lines, units_lines, branched, jumping, jump_lines, testing, test_lines, passing, tested_weight, plain_weight, at_next, at_test, region_lines}
 use Rattle.tk_paths.specs.Numbers as numbers
 use Rattle.tk_paths.proofs.Covered.{Covers}
 use Rattle.tk_paths.proofs.Lines.{Fits, IsFull, There, kind_loops, with_loops}
-use Rattle.tk_paths.proofs.Places.{lt-test}
+use Rattle.tk_paths.proofs.PlaceLaws.{lt-test}
 use Rattle.tk_paths.proofs.UnitLaws.{IsCode, unit-size, size-join, units-size, test-size}
 
 -- ---- sums

@@ -8,15 +8,15 @@ use Rattle.pt_image.specs.Listed.{same_numbers}
 use Rattle.tk_cert.specs.declared.cert.Line.{Line}
 use Rattle.tk_cert.specs.declared.cert.Line.TheVariants as line
 use Rattle.tk_cert.specs.declared.cert.CertParts.{CertParts}
-use Rattle.tk_bound.specs.declared.view.Side.{Side}
-use Rattle.tk_bound.specs.declared.view.Side.TheVariants.{ToPause, ToEnd}
-use Rattle.tk_bound.specs.declared.view.View.{View}
-use Rattle.tk_bound.specs.declared.view.View.TheVariants.{On, Value}
-use Rattle.tk_bound.specs.Sums.{or_zero}
-use Rattle.tk_bound.specs.Kinds.{line_at, is_thread, is_routine, loops_of, is_inside, same_kind}
-use Rattle.tk_bound.specs.Shape.{has_number}
-use Rattle.tk_bound.specs.Acceptance.{number_in, value_of, views_of, on_side}
-use Rattle.tk_bound.proofs.Lists.{IsAmong}
+use Rattle.tk_paths.specs.declared.view.Side.{Side}
+use Rattle.tk_paths.specs.declared.view.Side.TheVariants.{ToPause, ToEnd}
+use Rattle.tk_paths.specs.declared.view.View.{View}
+use Rattle.tk_paths.specs.declared.view.View.TheVariants.{On, Value}
+use Rattle.tk_paths.specs.Sums.{or_zero}
+use Rattle.tk_paths.specs.Kinds.{line_at, is_thread, is_routine, loops_of, is_inside, same_kind}
+use Rattle.tk_paths.specs.Shape.{has_number}
+use Rattle.tk_paths.specs.Acceptance.{number_in, value_of, views_of, on_side}
+use Rattle.tk_paths.proofs.Lists.{IsAmong}
 use Rattle.tk_paths.specs.Numbers.{Kind, thread, routine, condition, Numbers, level}
 use Rattle.tk_paths.specs.Numbers as numbers
 

@@ -4,7 +4,7 @@ use Rattle.pt_image.specs.declared.Parts.{Parts}
 use Rattle.tk_cert.specs.declared.cert.CertParts.{CertParts}
 use Rattle.tk_paths.specs.Regions.{Region, Words, Then, Choice, Counted, Repeated, Calling}
 use Rattle.tk_paths.specs.Numbers.{Kind, thread, routine, condition, inside}
-use Rattle.tk_paths.proofs.Places.{Openly}
+use Rattle.tk_paths.proofs.PlaceLaws.{Openly}
 use Rattle.tk_paths.proofs.UnitLaws.{IsCode}
 
 module _ (image : Parts) (cert : CertParts) (costs : List ℕ) (find : ℕ → Option Region) where

@@ -23,21 +23,21 @@ use Rattle.pt_image.specs.declared.AbortLine.{AbortLine}
 use Rattle.pt_image.specs.declared.Parts.{Parts}
 use Rattle.tk_cert.specs.declared.cert.CertParts.{CertParts}
 use Rattle.pt_image.specs.Listed.{is_listed}
-use Rattle.mb_step.specs.Control.{Control, Who, Turn, goes, stack_of, turns_on}
-use Rattle.mb_step.specs.Words.{Refuse, Go, plan_of, plan_word, plan_decoded, rests, on, enters}
-use Rattle.mb_step.specs.Step.{Moves, stepped, step}
-use Rattle.mb_step.specs.Free.{free}
-use Rattle.mb_step.specs.Tick.{Steps, still, onward}
-use Rattle.mb_step.proofs.Charging.{charge-least}
-use Rattle.tk_bound.specs.Words.{instr_at, instr_in}
-use Rattle.tk_bound.proofs.Slots.{without_last}
-use Rattle.tk_bound.proofs.Inner.{Image, begun, IsSound, stack}
-use Rattle.tk_bound.proofs.Inner as inner
-use Rattle.tk_bound.proofs.Carried.{image_of}
-use Rattle.tk_bound.proofs.Accepts.{Accepts}
-use Rattle.tk_bound.proofs.Accepted.{abort-there}
-use Rattle.tk_bound.proofs.Turns.{watches-are, paused-is, finished-is, forked-is, entered-is, left-is, free-children}
-use Rattle.tk_bound.proofs.Turned.{starts-are}
+use Rattle.mb_isa.specs.Control.{Control, Who, Turn, goes, stack_of, turns_on}
+use Rattle.mb_isa.specs.Words.{Refuse, Go, plan_of, plan_word, plan_decoded, rests, on, enters}
+use Rattle.mb_isa.specs.Step.{Moves, stepped, step}
+use Rattle.mb_isa.specs.Free.{free}
+use Rattle.mb_isa.specs.Tick.{Steps, still, onward}
+use Rattle.mb_isa.proofs.Charging.{charge-least}
+use Rattle.tk_paths.specs.Words.{instr_at, instr_in}
+use Rattle.tk_paths.proofs.Slots.{without_last}
+use Rattle.tk_paths.proofs.Inner.{Image, begun, IsSound, stack}
+use Rattle.tk_paths.proofs.Inner as inner
+use Rattle.tk_paths.proofs.Carried.{image_of}
+use Rattle.tk_paths.proofs.Accepts.{Accepts}
+use Rattle.tk_paths.proofs.Accepted.{abort-there}
+use Rattle.tk_paths.proofs.Turns.{watches-are, paused-is, finished-is, forked-is, entered-is, left-is, free-children}
+use Rattle.tk_paths.proofs.Turned.{starts-are}
 use Rattle.tk_paths.specs.Passages.{IsUnnested, Leads}
 use Rattle.tk_paths.proofs.Flags.{new_entry}
 

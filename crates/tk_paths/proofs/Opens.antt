@@ -6,11 +6,11 @@ use Rattle.pt_image.specs.declared.Parts.{Parts}
 use Rattle.tk_cert.specs.declared.cert.Line.{Line}
 use Rattle.tk_cert.specs.declared.cert.Line.TheVariants as line
 use Rattle.tk_cert.specs.declared.cert.CertParts.{CertParts}
-use Rattle.tk_bound.specs.Kinds.{line_at, is_thread, is_cond}
-use Rattle.tk_bound.proofs.Conditions.{Thread, Cond, Bare, IsAt, loops_of}
-use Rattle.tk_bound.proofs.Conditions as kinds
-use Rattle.tk_bound.proofs.Carried.{kind_of, image_of, cert_of, thread-kind}
-use Rattle.tk_bound.proofs.Turns.{reverse-none}
+use Rattle.tk_paths.specs.Kinds.{line_at, is_thread, is_cond}
+use Rattle.tk_paths.proofs.Conditions.{Thread, Cond, Bare, IsAt, loops_of}
+use Rattle.tk_paths.proofs.Conditions as kinds
+use Rattle.tk_paths.proofs.Carried.{kind_of, image_of, cert_of, thread-kind}
+use Rattle.tk_paths.proofs.Turns.{reverse-none}
 use Rattle.tk_paths.specs.Reached.{IsOpen}
 use Rattle.tk_paths.proofs.Lines.{numbers-same}
 

@@ -3,8 +3,8 @@ use Rattle.std.proofs.Common.{◌≡◌, ◌≤◌, ◌+◌, ◌++◌, ◌==◌,
 use Rattle.std.proofs.lemmas.Bool.Decides.{nat_tests}
 use Rattle.pt_image.specs.declared.Parts.{Parts}
 use Rattle.tk_cert.specs.declared.cert.CertParts.{CertParts}
-use Rattle.tk_bound.proofs.Lists.{IsAmong}
-use Rattle.tk_bound.proofs.Accepts.{among-left, among-right}
+use Rattle.tk_paths.proofs.Lists.{IsAmong}
+use Rattle.tk_paths.proofs.Accepts.{among-left, among-right}
 use Rattle.tk_paths.specs.Regions.{Region, Words, Then, Choice, Counted, Repeated, Calling, from, to, behind, IsLaid}
 use Rattle.tk_paths.specs.Codes.{Code, Passed, Sequence, Either, Turns, Forever, Resting, Forking, Guarded, entry, exit, IsLaidIn}
 use Rattle.tk_paths.specs.Choices.{pieces, code_pieces, piece_in}

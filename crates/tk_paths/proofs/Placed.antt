@@ -12,9 +12,9 @@ use Rattle.pt_image.specs.Listed.{is_listed, is_point, same_numbers}
 use Rattle.pt_image.specs.Ranges.{IsPoint, IsImage}
 use Rattle.tk_cert.specs.declared.cert.State.{State as WalkState}
 use Rattle.tk_cert.specs.Form.{IsState}
-use Rattle.mb_step.specs.Free.{IsConfigured, IsConfiguration, IsLoose, AreAtRest, numbers_of}
-use Rattle.tk_bound.specs.Walks.{state_of, states_of}
-use Rattle.tk_bound.proofs.Lists.{any-passes, all-among, three_parts}
+use Rattle.mb_isa.specs.Free.{IsConfigured, IsConfiguration, IsLoose, AreAtRest, numbers_of}
+use Rattle.tk_paths.specs.Walks.{state_of, states_of}
+use Rattle.tk_paths.proofs.Lists.{any-passes, all-among, three_parts}
 
 -- the places where slots are paused or wait are those of the code
 abbrev mutual

@@ -10,24 +10,24 @@ use Rattle.mb_isa.specs.declared.Class.TheVariants as class
 use Rattle.mb_isa.specs.Costs.{cost_of, IsCosts}
 use Rattle.mb_pfu.specs.declared.parts.Watch.{Watch}
 use Rattle.mb_pfu.specs.Rows.{relief}
-use Rattle.mb_step.specs.Control.{Turn, goes}
+use Rattle.mb_isa.specs.Control.{Turn, goes}
 use Rattle.pt_image.specs.declared.Parts.{Parts}
 use Rattle.tk_cert.specs.declared.cert.CertParts.{CertParts}
-use Rattle.tk_bound.specs.declared.view.Side.{Side}
-use Rattle.tk_bound.specs.declared.view.Side.TheVariants.{ToPause, ToEnd}
-use Rattle.tk_bound.specs.declared.word.Word.{Word}
-use Rattle.tk_bound.specs.declared.word.Word.TheVariants.{Fork, Abrt, Leave, Jump, Branch}
-use Rattle.tk_bound.specs.Sums.{plus, greater, all_ends, most, most_paused}
-use Rattle.tk_bound.specs.Words.{instr_at, read_instr}
-use Rattle.tk_bound.specs.Kinds.{line_at, start_of, abort_at}
-use Rattle.tk_bound.specs.Acceptance.{begins, more}
-use Rattle.tk_bound.proofs.Slots.{without_last}
-use Rattle.tk_bound.proofs.Inner.{Image}
-use Rattle.tk_bound.proofs.Conditions.{Cert, Thread, IsAt, AreAborts, IsFine, IsAccepted}
-use Rattle.tk_bound.proofs.Carried.{image_of, cert_of}
-use Rattle.tk_bound.proofs.Accepts.{Accepts}
-use Rattle.tk_bound.proofs.Controls.{sums}
-use Rattle.tk_bound.proofs.Settles.{word-of, read-plain, aborts-of}
+use Rattle.tk_paths.specs.declared.view.Side.{Side}
+use Rattle.tk_paths.specs.declared.view.Side.TheVariants.{ToPause, ToEnd}
+use Rattle.tk_paths.specs.declared.word.Word.{Word}
+use Rattle.tk_paths.specs.declared.word.Word.TheVariants.{Fork, Abrt, Leave, Jump, Branch}
+use Rattle.tk_paths.specs.Sums.{plus, greater, all_ends, most, most_paused}
+use Rattle.tk_paths.specs.Words.{instr_at, read_instr}
+use Rattle.tk_paths.specs.Kinds.{line_at, start_of, abort_at}
+use Rattle.tk_paths.specs.Acceptance.{begins, more}
+use Rattle.tk_paths.proofs.Slots.{without_last}
+use Rattle.tk_paths.proofs.Inner.{Image}
+use Rattle.tk_paths.proofs.Conditions.{Cert, Thread, IsAt, AreAborts, IsFine, IsAccepted}
+use Rattle.tk_paths.proofs.Carried.{image_of, cert_of}
+use Rattle.tk_paths.proofs.Accepts.{Accepts}
+use Rattle.tk_paths.proofs.Controls.{sums}
+use Rattle.tk_paths.proofs.Settles.{word-of, read-plain, aborts-of}
 use Rattle.tk_paths.specs.Reached.{IsOpen, Has, both_sides}
 use Rattle.tk_paths.specs.Regions.{Region, from, to, links_in, counters_in, half, word_place, behind, unit_word, IsUnit, IsLaid, extra, through, dearest_way}
 use Rattle.tk_paths.specs.Greatest.{stays, num, handlers, resting, grouping, ended}
@@ -35,7 +35,7 @@ use Rattle.tk_paths.specs.Choices.{bare_of, is_second, Plan, behind_choices, fit
 use Rattle.tk_paths.proofs.Bare.{resting-same, grouping-same}
 use Rattle.tk_paths.proofs.Fitted.{greater-so, fitted-size, fitted-same, fitted-one, stack-at, by-weak, stays-is, fitted-none, fitted-join, made-none}
 use Rattle.tk_paths.proofs.Opens.{open-at, at-open}
-use Rattle.tk_paths.proofs.Steps.{IsStep, passing, jumping, branching, IsStepWith}
+use Rattle.tk_paths.proofs.OpenPlaces.{IsStep, passing, jumping, branching, IsStepWith}
 use Rattle.tk_paths.proofs.MaxPlus.{plus-is, more-is}
 use Rattle.tk_paths.proofs.Routes.{Crosses, Route, passes, enters, leaves, pauses, forks, ends, Rested, goes as goes_to, Afterwards, joins, rests, Routes, nobody, child}
 use Rattle.tk_paths.proofs.Routes as routes

@@ -6,8 +6,8 @@ use Rattle.pt_image.specs.declared.Point.{Point}
 use Rattle.pt_image.specs.declared.Parts.{Parts}
 use Rattle.pt_image.specs.Ranges.{IsPoint, IsImage}
 use Rattle.tk_cert.specs.declared.cert.Walk.{Walk}
-use Rattle.tk_bound.specs.Bounded.{IsAcceptedFor}
-use Rattle.tk_bound.proofs.Lists.{all-among}
+use Rattle.tk_paths.specs.Bounded.{IsAcceptedFor}
+use Rattle.tk_paths.proofs.Lists.{all-among}
 use Rattle.tk_paths.specs.Greatest.{IsGreatest}
 use Rattle.tk_paths.specs.Programs.{Program, IsPauseIn, IsForkIn, IsProgram, certificate}
 use Rattle.tk_paths.proofs.Sections.{F, sections-size, weights-rise, code-of, start-kind, start-plain, covered, thread-good}

@@ -8,12 +8,12 @@ use Rattle.mb_isa.specs.Costs.{cost_of}
 use Rattle.pt_image.specs.declared.Parts.{Parts}
 use Rattle.tk_cert.specs.declared.cert.Line.{Line}
 use Rattle.tk_cert.specs.declared.cert.Line.TheVariants as line
-use Rattle.tk_bound.specs.declared.view.Side.TheVariants.{ToPause, ToEnd}
-use Rattle.tk_bound.specs.declared.view.View.{View}
-use Rattle.tk_bound.specs.declared.view.View.TheVariants.{On, Value}
-use Rattle.tk_bound.specs.declared.word.Word.TheVariants.{Does}
-use Rattle.tk_bound.specs.Sums.{plus, greater, or_zero}
-use Rattle.tk_bound.specs.Acceptance.{more}
+use Rattle.tk_paths.specs.declared.view.Side.TheVariants.{ToPause, ToEnd}
+use Rattle.tk_paths.specs.declared.view.View.{View}
+use Rattle.tk_paths.specs.declared.view.View.TheVariants.{On, Value}
+use Rattle.tk_paths.specs.declared.word.Word.TheVariants.{Does}
+use Rattle.tk_paths.specs.Sums.{plus, greater, or_zero}
+use Rattle.tk_paths.specs.Acceptance.{more}
 use Rattle.tk_paths.specs.Regions.{Region, Words, Then, Choice, Counted, Repeated, Calling, from, to, behind_half, half, word_place, behind, unit_word, AreUnits, IsLaid, half_cost, extra, word_cost, units_cost, leaving, through}
 use Rattle.tk_paths.specs.Numbers.{Kind, thread, routine, condition, inside, Numbers, level, nothing, Handler, stack_of, after, next_number, half_lines, unit_lines, units_lines, branched, jumping, jump_lines, testing, test_lines, passing, tested_weight, plain_weight, at_next, at_test, region_lines, region_weights, handled, rested, left, with_abort, grouped, entered, code_lines, code_weights}
 use Rattle.tk_paths.specs.Numbers as numbers

@@ -8,15 +8,15 @@ use Rattle.pt_image.specs.declared.Parts.{Parts}
 use Rattle.tk_cert.specs.declared.cert.Line.TheVariants as lines
 use Rattle.tk_cert.specs.declared.cert.CertParts.{CertParts}
 use Rattle.tk_cert.specs.Demands.{at_least}
-use Rattle.tk_bound.specs.declared.view.View.{View}
-use Rattle.tk_bound.specs.declared.view.View.TheVariants.{On, Value}
-use Rattle.tk_bound.specs.declared.word.Word.TheVariants.{Jump, Branch, Call, Loop, Next, Drop}
-use Rattle.tk_bound.specs.Sums.{lowered, or_zero}
-use Rattle.tk_bound.specs.Words.{instr_at, read}
-use Rattle.tk_bound.specs.Kinds.{line_at, loops_of, is_inside}
-use Rattle.tk_bound.specs.Shape.{weight_in, on_last, may_call, may_loop, keeps_kind}
-use Rattle.tk_bound.specs.Acceptance.{level_of, number, value, value_of, weight, more, inner_weight, edge}
-use Rattle.tk_bound.proofs.Lists.{IsAmong}
+use Rattle.tk_paths.specs.declared.view.View.{View}
+use Rattle.tk_paths.specs.declared.view.View.TheVariants.{On, Value}
+use Rattle.tk_paths.specs.declared.word.Word.TheVariants.{Jump, Branch, Call, Loop, Next, Drop}
+use Rattle.tk_paths.specs.Sums.{lowered, or_zero}
+use Rattle.tk_paths.specs.Words.{instr_at, read}
+use Rattle.tk_paths.specs.Kinds.{line_at, loops_of, is_inside}
+use Rattle.tk_paths.specs.Shape.{weight_in, on_last, may_call, may_loop, keeps_kind}
+use Rattle.tk_paths.specs.Acceptance.{level_of, number, value, value_of, weight, more, inner_weight, edge}
+use Rattle.tk_paths.proofs.Lists.{IsAmong}
 use Rattle.tk_paths.specs.Regions.{Region, Words, Then, Choice, Counted, Repeated, Calling, from, to, behind_half, word_place, behind, unit_word, IsUnit, IsWord, IsLaid, extra, units_cost, test_cost, leaving, through}
 use Rattle.tk_paths.specs.Choices.{stretch}
 use Rattle.tk_paths.specs.Codes.{loops_in, EachCalled}
@@ -25,9 +25,9 @@ use Rattle.tk_paths.specs.Numbers as numbers
 use Rattle.tk_paths.specs.Programs.{height}
 use Rattle.tk_paths.proofs.Covered.{Covers, holds-of, all-append, Holding}
 use Rattle.tk_paths.proofs.Lines.{Fits, IsFull, full-map, kind_loops, kind-inside, loops-line, at-left, at-right}
-use Rattle.tk_paths.proofs.Steps.{IsStep, IsStepWith, passing as passes}
+use Rattle.tk_paths.proofs.OpenPlaces.{IsStep, IsStepWith, passing as passes}
 use Rattle.tk_paths.proofs.Listing.{AreListed, Listed, listed-inside}
-use Rattle.tk_paths.proofs.Places.{and-two, lt-test, Every, every-one, every-join, no-half, straight-with, straight-at, IsPlain, plain-next, unit-plain, Known, openly-map, Meets, place-good, numbered, edge-holds, itself, full-after, unit-first, unit-good}
+use Rattle.tk_paths.proofs.PlaceLaws.{and-two, lt-test, Every, every-one, every-join, no-half, straight-with, straight-at, IsPlain, plain-next, unit-plain, Known, openly-map, Meets, place-good, numbered, edge-holds, itself, full-after, unit-first, unit-good}
 use Rattle.tk_paths.proofs.UnitLaws.{more-more, IsCode, unit-size, size-join, test-size, At, Good, On_line, moved, same-numbers, unit-word, units-first, test-first, keeps, opens, code-closes, units-law, jump-law, branched-full, units-plain, test-law}
 use Rattle.tk_paths.proofs.Insides.{choice-sum, counted-sum, repeated-sum, turn-covers, out-covers, round-covers, next-there, last-added, code-inside, loops-inside, inside-is, outside-is, fits-inside, full-inside, length-last, not-empty, HasRoom, room-less, room-inside, may-loop, size-from, size-one, region-size}
 

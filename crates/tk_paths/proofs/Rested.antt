@@ -16,17 +16,17 @@ use Rattle.tk_cert.specs.declared.cert.Line.TheVariants as line
 use Rattle.tk_cert.specs.declared.cert.CertParts.{CertParts}
 use Rattle.tk_cert.specs.Shapes.{IsShaped, IsCert}
 use Rattle.tk_cert.specs.Demands.{Demand, shape_demand, at_least, AllHold}
-use Rattle.tk_bound.specs.declared.view.Side.{Side}
-use Rattle.tk_bound.specs.declared.view.Side.TheVariants.{ToPause, ToEnd}
-use Rattle.tk_bound.specs.declared.word.Word.{Word}
-use Rattle.tk_bound.specs.declared.word.Word.TheVariants.{Eot, Fork}
-use Rattle.tk_bound.specs.Sums.{plus, greater, all_ends, most_paused}
-use Rattle.tk_bound.specs.Words.{instr_at, word_of, read_instr}
-use Rattle.tk_bound.specs.Kinds.{line_at, is_thread, upper_at, word_at, places_of, points_at}
-use Rattle.tk_bound.specs.Shape.{pause_is_shaped, fork_is_shaped, line_is_shaped, place_is_shaped, says_well, word_is_shaped, shape}
-use Rattle.tk_bound.specs.Acceptance.{levels_of, levels, begins, more, pause_handlers, pause_at_level, word_pauses, pauses, fork_ends, fork_handlers, fork_at_level, word_forks, forks}
-use Rattle.tk_bound.proofs.Lists.{IsAmong, all-map, index-among, three_parts}
-use Rattle.tk_bound.proofs.Accepts.{nothing}
+use Rattle.tk_paths.specs.declared.view.Side.{Side}
+use Rattle.tk_paths.specs.declared.view.Side.TheVariants.{ToPause, ToEnd}
+use Rattle.tk_paths.specs.declared.word.Word.{Word}
+use Rattle.tk_paths.specs.declared.word.Word.TheVariants.{Eot, Fork}
+use Rattle.tk_paths.specs.Sums.{plus, greater, all_ends, most_paused}
+use Rattle.tk_paths.specs.Words.{instr_at, word_of, read_instr}
+use Rattle.tk_paths.specs.Kinds.{line_at, is_thread, upper_at, word_at, places_of, points_at}
+use Rattle.tk_paths.specs.Shape.{pause_is_shaped, fork_is_shaped, line_is_shaped, place_is_shaped, says_well, word_is_shaped, shape}
+use Rattle.tk_paths.specs.Acceptance.{levels_of, levels, begins, more, pause_handlers, pause_at_level, word_pauses, pauses, fork_ends, fork_handlers, fork_at_level, word_forks, forks}
+use Rattle.tk_paths.proofs.Lists.{IsAmong, all-map, index-among, three_parts}
+use Rattle.tk_paths.proofs.Accepts.{nothing}
 use Rattle.tk_paths.specs.Reached.{IsOpen}
 use Rattle.tk_paths.specs.Greatest.{stays, num, handlers, resting, grouping, IsGreatestWith, IsGreatest}
 use Rattle.tk_paths.proofs.Lines.{numbers-same}

@@ -13,21 +13,21 @@ use Rattle.pt_image.specs.declared.Parts.{Parts}
 use Rattle.pt_image.specs.Listed.{is_listed, is_point, same_numbers}
 use Rattle.pt_image.specs.Ranges.{AllBelow, IsPoint}
 use Rattle.tk_cert.specs.declared.cert.CertParts.{CertParts}
-use Rattle.mb_step.specs.Free.{IsLoose, AreAtRest, HasLoose, AreOfLines}
-use Rattle.tk_bound.specs.declared.view.Side.{Side}
-use Rattle.tk_bound.specs.declared.view.Side.TheVariants.{ToPause, ToEnd}
-use Rattle.tk_bound.specs.declared.word.Word.TheVariants.{Eot, Fork}
-use Rattle.tk_bound.specs.Words.{instr_at, read_instr}
-use Rattle.tk_bound.specs.Kinds.{abort_at}
-use Rattle.tk_bound.specs.Acceptance.{resumed}
-use Rattle.tk_bound.proofs.Inner.{Image}
-use Rattle.tk_bound.proofs.Conditions.{Cert, Thread, IsFine, AreAborts, IsAccepted}
-use Rattle.tk_bound.proofs.Lists.{any-passes, all-among, three_parts}
-use Rattle.tk_bound.proofs.Carried.{image_of, cert_of, same-list}
-use Rattle.tk_bound.proofs.Accepts.{Accepts}
-use Rattle.tk_bound.proofs.Accepted.{abort-there}
-use Rattle.tk_bound.proofs.Controls.{sums}
-use Rattle.tk_bound.proofs.Settles.{word-of, read-plain, aborts-of}
+use Rattle.mb_isa.specs.Free.{IsLoose, AreAtRest, HasLoose, AreOfLines}
+use Rattle.tk_paths.specs.declared.view.Side.{Side}
+use Rattle.tk_paths.specs.declared.view.Side.TheVariants.{ToPause, ToEnd}
+use Rattle.tk_paths.specs.declared.word.Word.TheVariants.{Eot, Fork}
+use Rattle.tk_paths.specs.Words.{instr_at, read_instr}
+use Rattle.tk_paths.specs.Kinds.{abort_at}
+use Rattle.tk_paths.specs.Acceptance.{resumed}
+use Rattle.tk_paths.proofs.Inner.{Image}
+use Rattle.tk_paths.proofs.Conditions.{Cert, Thread, IsFine, AreAborts, IsAccepted}
+use Rattle.tk_paths.proofs.Lists.{any-passes, all-among, three_parts}
+use Rattle.tk_paths.proofs.Carried.{image_of, cert_of, same-list}
+use Rattle.tk_paths.proofs.Accepts.{Accepts}
+use Rattle.tk_paths.proofs.Accepted.{abort-there}
+use Rattle.tk_paths.proofs.Controls.{sums}
+use Rattle.tk_paths.proofs.Settles.{word-of, read-plain, aborts-of}
 use Rattle.tk_paths.specs.Reached.{both_sides, both_ends, Has, After, Resumes, Resumed, Tested}
 use Rattle.tk_paths.specs.Tight.{Resumption, at_pause, at_fork, IsTight}
 use Rattle.tk_paths.proofs.Ways.{Way, Afterwards}

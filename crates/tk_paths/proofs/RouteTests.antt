@@ -11,22 +11,22 @@ use Rattle.mb_pfu.specs.Unit.{State, entry_of}
 use Rattle.mb_pfu.proofs.Firsts.{report-numbered}
 use Rattle.pt_image.specs.declared.Parts.{Parts}
 use Rattle.tk_cert.specs.declared.cert.CertParts.{CertParts}
-use Rattle.mb_step.specs.Control.{Control, Resting, Condition, goes, turns_on, tests_from, tests_on}
-use Rattle.mb_step.specs.Control as control
-use Rattle.tk_bound.specs.Kinds.{line_at, is_cond, upper_at}
-use Rattle.tk_bound.specs.declared.view.Side.{Side}
-use Rattle.tk_bound.specs.declared.view.Side.TheVariants.{ToPause, ToEnd}
-use Rattle.tk_bound.proofs.Slots.{Judged, Cut, Kept, behind_one, judged, judged_tree, first_cond, next_cond, next_cond_among, if_some, test_answered, test_answered_among}
-use Rattle.tk_bound.proofs.Inner.{Image, IsSound}
-use Rattle.tk_bound.proofs.Conditions.{Cert, IsAccepted}
-use Rattle.tk_bound.proofs.Carried.{image_of, cert_of}
-use Rattle.tk_bound.proofs.Accepts.{Accepts}
-use Rattle.tk_bound.proofs.Controls.{sums}
-use Rattle.tk_bound.proofs.Tests.{when_due, IsTesting, AreTesting, undue, nothing-due, answers, wakes-right}
-use Rattle.tk_bound.proofs.Begins.{next-cond-line}
-use Rattle.tk_bound.proofs.Whole.{sound-each, sound-answered}
-use Rattle.tk_bound.proofs.Tested.{due-next, alike}
-use Rattle.tk_bound.proofs.Turns.{once-of, cond_in, cond-report}
+use Rattle.mb_isa.specs.Control.{Control, Resting, Condition, goes, turns_on, tests_from, tests_on}
+use Rattle.mb_isa.specs.Control as control
+use Rattle.tk_paths.specs.Kinds.{line_at, is_cond, upper_at}
+use Rattle.tk_paths.specs.declared.view.Side.{Side}
+use Rattle.tk_paths.specs.declared.view.Side.TheVariants.{ToPause, ToEnd}
+use Rattle.tk_paths.proofs.Slots.{Judged, Cut, Kept, behind_one, judged, judged_tree, first_cond, next_cond, next_cond_among, if_some, test_answered, test_answered_among}
+use Rattle.tk_paths.proofs.Inner.{Image, IsSound}
+use Rattle.tk_paths.proofs.Conditions.{Cert, IsAccepted}
+use Rattle.tk_paths.proofs.Carried.{image_of, cert_of}
+use Rattle.tk_paths.proofs.Accepts.{Accepts}
+use Rattle.tk_paths.proofs.Controls.{sums}
+use Rattle.tk_paths.proofs.Tests.{when_due, IsTesting, AreTesting, undue, nothing-due, answers, wakes-right}
+use Rattle.tk_paths.proofs.Begins.{next-cond-line}
+use Rattle.tk_paths.proofs.Whole.{sound-each, sound-answered}
+use Rattle.tk_paths.proofs.Tested.{due-next, alike}
+use Rattle.tk_paths.proofs.Turns.{once-of, cond_in, cond-report}
 use Rattle.tk_paths.specs.Passages.{Leads}
 use Rattle.tk_paths.specs.Reached.{both_sides}
 use Rattle.tk_paths.proofs.Opens.{at-cond}

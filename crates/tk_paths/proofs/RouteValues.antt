@@ -9,8 +9,8 @@ use Rattle.mb_pfu.specs.Tree.{Running, Pausing, Finished, Tree, Group, Leaf, Wai
 use Rattle.mb_pfu.specs.Contexts.{filled, Frame, Context, plug, climb, IsQuietBefore}
 use Rattle.pt_image.specs.declared.Parts.{Parts}
 use Rattle.tk_cert.specs.declared.cert.CertParts.{CertParts}
-use Rattle.tk_bound.specs.declared.view.Side.{Side}
-use Rattle.tk_bound.specs.declared.view.Side.TheVariants.{ToPause, ToEnd}
+use Rattle.tk_paths.specs.declared.view.Side.{Side}
+use Rattle.tk_paths.specs.declared.view.Side.TheVariants.{ToPause, ToEnd}
 use Rattle.tk_paths.specs.Reached.{both_sides}
 use Rattle.tk_paths.proofs.Routes.{Route, Rested, stays, goes, Afterwards, joins, rests}
 

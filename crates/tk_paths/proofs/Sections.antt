@@ -14,16 +14,16 @@ use Rattle.tk_cert.specs.declared.cert.Walk.{Walk}
 use Rattle.tk_cert.specs.declared.cert.CertParts.{CertParts}
 use Rattle.tk_cert.specs.Shapes.{RiseFrom}
 use Rattle.tk_cert.specs.Demands.{AllHold}
-use Rattle.tk_bound.specs.declared.view.Side.{Side}
-use Rattle.tk_bound.specs.declared.view.Side.TheVariants.{ToPause, ToEnd}
-use Rattle.tk_bound.specs.declared.view.View.{View}
-use Rattle.tk_bound.specs.declared.view.View.TheVariants.{On, Value}
-use Rattle.tk_bound.specs.declared.word.Word.TheVariants.{End, Ret, Cend}
-use Rattle.tk_bound.specs.Words.{instr_at, read}
-use Rattle.tk_bound.specs.Kinds.{line_at, is_thread, is_cond, upper_behind, upper_at, start_of, abort_at}
-use Rattle.tk_bound.specs.Acceptance.{number, value_of, ending, closing}
-use Rattle.tk_bound.proofs.Lists.{IsAmong}
-use Rattle.tk_bound.proofs.Accepts.{among-flat}
+use Rattle.tk_paths.specs.declared.view.Side.{Side}
+use Rattle.tk_paths.specs.declared.view.Side.TheVariants.{ToPause, ToEnd}
+use Rattle.tk_paths.specs.declared.view.View.{View}
+use Rattle.tk_paths.specs.declared.view.View.TheVariants.{On, Value}
+use Rattle.tk_paths.specs.declared.word.Word.TheVariants.{End, Ret, Cend}
+use Rattle.tk_paths.specs.Words.{instr_at, read}
+use Rattle.tk_paths.specs.Kinds.{line_at, is_thread, is_cond, upper_behind, upper_at, start_of, abort_at}
+use Rattle.tk_paths.specs.Acceptance.{number, value_of, ending, closing}
+use Rattle.tk_paths.proofs.Lists.{IsAmong}
+use Rattle.tk_paths.proofs.Accepts.{among-flat}
 use Rattle.tk_paths.specs.Regions.{Region, from, to, IsWord, AreUnits, IsLaid}
 use Rattle.tk_paths.specs.Greatest.{ended as greatest_ended}
 use Rattle.tk_paths.specs.Choices.{code_pieces, section_pieces, piece_in}
@@ -34,8 +34,8 @@ use Rattle.tk_paths.specs.Numbers as numbers
 use Rattle.tk_paths.specs.Programs.{Section, OfThread, OfRoutine, OfCondition, Unused, Program, ends_in, height, AreSections, IsIn, IsInThread, IsClosed, IsProgram, ended, starts_in, section_lines, section_weights, certificate}
 use Rattle.tk_paths.proofs.Covered.{Covers, holds-of}
 use Rattle.tk_paths.proofs.Lines.{Fits, IsFull, own-thread, AreAt, at-left, at-right, append-size, lines-at}
-use Rattle.tk_paths.proofs.Steps.{IsStepWith}
-use Rattle.tk_paths.proofs.Places.{Every, every-one, every-join, IsPlain, plain-next, place-good, numbered, level-number, itself}
+use Rattle.tk_paths.proofs.OpenPlaces.{IsStepWith}
+use Rattle.tk_paths.proofs.PlaceLaws.{Every, every-one, every-join, IsPlain, plain-next, place-good, numbered, level-number, itself}
 use Rattle.tk_paths.proofs.UnitLaws.{At, Good, On_line, units-size, units-first, units-plain, units-law}
 use Rattle.tk_paths.proofs.Insides.{region-size}
 use Rattle.tk_paths.proofs.RegionLaws.{region-plain, region-first, IsCalled, region-law}

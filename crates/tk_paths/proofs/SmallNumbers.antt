@@ -8,11 +8,11 @@ use Rattle.pt_image.specs.declared.Point.{Point}
 use Rattle.pt_image.specs.declared.Parts.{Parts}
 use Rattle.pt_image.specs.Ranges.{IsPoint, IsImage}
 use Rattle.tk_cert.specs.declared.cert.Walk.{Walk}
-use Rattle.tk_bound.specs.Sums.{resumed_most}
-use Rattle.tk_bound.specs.Shape.{children_at, children_in}
-use Rattle.tk_bound.specs.Acceptance.{resumed}
-use Rattle.tk_bound.specs.Walks.{most_cycles}
-use Rattle.tk_bound.proofs.Lists.{IsAmong, all-among}
+use Rattle.tk_paths.specs.Sums.{resumed_most}
+use Rattle.tk_paths.specs.Shape.{children_at, children_in}
+use Rattle.tk_paths.specs.Acceptance.{resumed}
+use Rattle.tk_paths.specs.Walks.{most_cycles}
+use Rattle.tk_paths.proofs.Lists.{IsAmong, all-among}
 use Rattle.tk_paths.specs.Codes.{Code, Passed, Sequence, Either, Turns, Forever, Resting, Forking, Guarded}
 use Rattle.tk_paths.specs.Programs.{OfThread, Program, IsProgram, starts_in, certificate}
 use Rattle.tk_paths.specs.Counts.{total, way_most, starts_most, waited_most, place_most, tests_most, slots_most_from, slots_most, AreSmall, EachFork, HasSmallNumbers}

@@ -4,10 +4,10 @@ use Rattle.std.proofs.lemmas.Option.{none-some, same_Some}
 use Rattle.mb_isa.specs.declared.Class.TheVariants as class
 use Rattle.mb_isa.specs.Costs.{cost_of}
 use Rattle.pt_image.specs.declared.Parts.{Parts}
-use Rattle.tk_bound.specs.declared.view.Side.{Side}
-use Rattle.tk_bound.specs.declared.view.Side.TheVariants.{ToPause, ToEnd}
-use Rattle.tk_bound.specs.declared.view.View.TheVariants.{On}
-use Rattle.tk_bound.specs.Acceptance.{on_side}
+use Rattle.tk_paths.specs.declared.view.Side.{Side}
+use Rattle.tk_paths.specs.declared.view.Side.TheVariants.{ToPause, ToEnd}
+use Rattle.tk_paths.specs.declared.view.View.TheVariants.{On}
+use Rattle.tk_paths.specs.Acceptance.{on_side}
 use Rattle.tk_paths.specs.Codes.{Code, IsLasting, IsLaidIn}
 use Rattle.tk_paths.specs.Numbers.{Numbers, level, entered}
 use Rattle.tk_paths.specs.Programs.{pair_from, enders_from, ends_in, ended, starts_from, starts_in}

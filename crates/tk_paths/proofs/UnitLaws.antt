@@ -9,13 +9,13 @@ use Rattle.mb_isa.specs.Costs.{cost_of}
 use Rattle.pt_image.specs.declared.Parts.{Parts}
 use Rattle.tk_cert.specs.declared.cert.Line.{Line}
 use Rattle.tk_cert.specs.declared.cert.CertParts.{CertParts}
-use Rattle.tk_bound.specs.declared.view.View.{View}
-use Rattle.tk_bound.specs.declared.view.View.TheVariants.{On, Value}
-use Rattle.tk_bound.specs.declared.word.Word.TheVariants.{Does, Jump, Branch, Cend}
-use Rattle.tk_bound.specs.Sums.{greater}
-use Rattle.tk_bound.specs.Kinds.{line_at, is_thread, same_kind}
-use Rattle.tk_bound.specs.Shape.{keeps_kind}
-use Rattle.tk_bound.specs.Acceptance.{number, value_of, more, edge}
+use Rattle.tk_paths.specs.declared.view.View.{View}
+use Rattle.tk_paths.specs.declared.view.View.TheVariants.{On, Value}
+use Rattle.tk_paths.specs.declared.word.Word.TheVariants.{Does, Jump, Branch, Cend}
+use Rattle.tk_paths.specs.Sums.{greater}
+use Rattle.tk_paths.specs.Kinds.{line_at, is_thread, same_kind}
+use Rattle.tk_paths.specs.Shape.{keeps_kind}
+use Rattle.tk_paths.specs.Acceptance.{number, value_of, more, edge}
 use Rattle.tk_paths.specs.Regions.{Region, Words, behind_half, half, word_place, behind, unit_word, IsUnit, IsWord, AreUnits, extra, word_cost, units_cost}
 use Rattle.tk_paths.specs.Reached.{IsOpen}
 use Rattle.tk_paths.specs.Choices.{stretch}
@@ -23,8 +23,8 @@ use Rattle.tk_paths.specs.Numbers.{Kind, thread, routine, condition, Numbers, le
 use Rattle.tk_paths.specs.Numbers as numbers
 use Rattle.tk_paths.proofs.Covered.{Covers, greater-left, greater-right, all-append, Holding}
 use Rattle.tk_paths.proofs.Lines.{IsFull, There, full-map, line-same, kind-same, own-thread, value-is, AreAt, at-left, at-right, append-size}
-use Rattle.tk_paths.proofs.Steps.{passing, jumping, branching}
-use Rattle.tk_paths.proofs.Places.{and-two, Every, every-none, every-join, straight-at, IsPlain, Stands, unit-plain, Known, Meets, IsGood, numbered, edge-holds, itself, full-after, unit-first, unit-good}
+use Rattle.tk_paths.proofs.OpenPlaces.{passing, jumping, branching}
+use Rattle.tk_paths.proofs.PlaceLaws.{and-two, Every, every-none, every-join, straight-at, IsPlain, Stands, unit-plain, Known, Meets, IsGood, numbered, edge-holds, itself, full-after, unit-first, unit-good}
 
 -- ---- sums and the greater of two
 

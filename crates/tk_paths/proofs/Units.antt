@@ -16,15 +16,15 @@ use Rattle.mb_pfu.specs.Calls.{last_from, last_of}
 use Rattle.mb_pfu.specs.Tree.{next_test}
 use Rattle.mb_pfu.specs.Unit.{State}
 use Rattle.pt_image.specs.declared.Parts.{Parts}
-use Rattle.mb_step.specs.Control.{Control, Who, Turn, Condition, phase_at, goes, tests_on, answered}
-use Rattle.mb_step.specs.Words.{Plan, Refuse, Go, Work, plan_of, plan_word, plan_decoded, plan, is_barred, on, on_to, jump, goes_to}
-use Rattle.mb_step.specs.Words as plans
-use Rattle.mb_step.specs.Step.{Moves, samples_from, stepped, step}
-use Rattle.mb_step.specs.Free.{free}
-use Rattle.tk_bound.specs.declared.word.Word.{Word}
-use Rattle.tk_bound.specs.declared.word.Word.TheVariants.{Does, Imm, Jump, Branch, Call, Ret, Loop, Next, Drop, Cend}
-use Rattle.tk_bound.specs.Words.{instr_at, instr_in, word_of, goal_of, read_instr, read}
-use Rattle.tk_bound.specs.Kinds.{imm_in}
+use Rattle.mb_isa.specs.Control.{Control, Who, Turn, Condition, phase_at, goes, tests_on, answered}
+use Rattle.mb_isa.specs.Words.{Plan, Refuse, Go, Work, plan_of, plan_word, plan_decoded, plan, is_barred, on, on_to, jump, goes_to}
+use Rattle.mb_isa.specs.Words as plans
+use Rattle.mb_isa.specs.Step.{Moves, samples_from, stepped, step}
+use Rattle.mb_isa.specs.Free.{free}
+use Rattle.tk_paths.specs.declared.word.Word.{Word}
+use Rattle.tk_paths.specs.declared.word.Word.TheVariants.{Does, Imm, Jump, Branch, Call, Ret, Loop, Next, Drop, Cend}
+use Rattle.tk_paths.specs.Words.{instr_at, instr_in, word_of, goal_of, read_instr, read}
+use Rattle.tk_paths.specs.Kinds.{imm_in}
 use Rattle.tk_paths.specs.Passages.{Leads}
 use Rattle.tk_paths.specs.Regions.{behind_half, half, word_place, behind, IsWord, AreUnits, unit_word, half_cost, extra, word_cost, units_cost}
 use Rattle.tk_paths.proofs.Moves.{no-lead, one-lead, joined-leads, costing}

@@ -20,26 +20,26 @@ use Rattle.mb_pfu.proofs.Trees.{is_in-report}
 use Rattle.pt_image.specs.declared.Parts.{Parts}
 use Rattle.pt_image.specs.Listed.{is_listed}
 use Rattle.tk_cert.specs.declared.cert.CertParts.{CertParts}
-use Rattle.mb_step.specs.Control.{Control, Resting, Turn, goes, turns_on, turns_from, start_in}
-use Rattle.tk_bound.specs.declared.view.Side.{Side}
-use Rattle.tk_bound.specs.declared.view.Side.TheVariants.{ToPause, ToEnd}
-use Rattle.tk_bound.specs.declared.word.Word.{Word}
-use Rattle.tk_bound.specs.declared.word.Word.TheVariants.{Fork, Eot, End, Abrt, Leave}
-use Rattle.tk_bound.specs.Words.{instr_at, read_instr}
-use Rattle.tk_bound.proofs.Slots.{middle, without_last}
-use Rattle.tk_bound.proofs.Inner.{Image, IsSound, stack, begun}
-use Rattle.tk_bound.proofs.Inner as inner
-use Rattle.tk_bound.proofs.Conditions.{Cert, Thread, IsFine, IsAccepted}
-use Rattle.tk_bound.proofs.Carried.{image_of, cert_of, lt-true}
-use Rattle.tk_bound.proofs.Accepts.{Accepts}
-use Rattle.tk_bound.proofs.Controls.{sums}
-use Rattle.tk_bound.proofs.Turns.{middle-same, is-next, slot-is, plug-occurs}
-use Rattle.tk_bound.proofs.Turned.{busy-same}
-use Rattle.tk_bound.proofs.Finds.{turn_of}
-use Rattle.tk_bound.proofs.Rights.{IsRight, IsContextRight, plug-right}
-use Rattle.tk_bound.proofs.Settles.{word-of, read-plain, climbs, pauses}
-use Rattle.tk_bound.proofs.Entries.{stack-last, enters, leaves, not-empty, size-begun, begun-right, begun-unended, right-plug}
-use Rattle.tk_bound.proofs.Sounds.{plug-more, sound-less, sound-leaf, climb-less, not-busy, sound-fork, children-free}
+use Rattle.mb_isa.specs.Control.{Control, Resting, Turn, goes, turns_on, turns_from, start_in}
+use Rattle.tk_paths.specs.declared.view.Side.{Side}
+use Rattle.tk_paths.specs.declared.view.Side.TheVariants.{ToPause, ToEnd}
+use Rattle.tk_paths.specs.declared.word.Word.{Word}
+use Rattle.tk_paths.specs.declared.word.Word.TheVariants.{Fork, Eot, End, Abrt, Leave}
+use Rattle.tk_paths.specs.Words.{instr_at, read_instr}
+use Rattle.tk_paths.proofs.Slots.{middle, without_last}
+use Rattle.tk_paths.proofs.Inner.{Image, IsSound, stack, begun}
+use Rattle.tk_paths.proofs.Inner as inner
+use Rattle.tk_paths.proofs.Conditions.{Cert, Thread, IsFine, IsAccepted}
+use Rattle.tk_paths.proofs.Carried.{image_of, cert_of, lt-true}
+use Rattle.tk_paths.proofs.Accepts.{Accepts}
+use Rattle.tk_paths.proofs.Controls.{sums}
+use Rattle.tk_paths.proofs.Turns.{middle-same, is-next, slot-is, plug-occurs}
+use Rattle.tk_paths.proofs.Turned.{busy-same}
+use Rattle.tk_paths.proofs.Finds.{turn_of}
+use Rattle.tk_paths.proofs.Rights.{IsRight, IsContextRight, plug-right}
+use Rattle.tk_paths.proofs.Settles.{word-of, read-plain, climbs, pauses}
+use Rattle.tk_paths.proofs.Entries.{stack-last, enters, leaves, not-empty, size-begun, begun-right, begun-unended, right-plug}
+use Rattle.tk_paths.proofs.Sounds.{plug-more, sound-less, sound-leaf, climb-less, not-busy, sound-fork, children-free}
 use Rattle.tk_paths.specs.Passages.{IsUnnested, Leads}
 use Rattle.tk_paths.proofs.Flags.{new_entry}
 use Rattle.tk_paths.proofs.Ways.{Way, Ways, Afterwards, nobody, child}

@@ -7,13 +7,13 @@ use Rattle.mb_pfu.specs.declared.parts.Watch.{Watch}
 use Rattle.mb_pfu.specs.Rows.{relief, with_last}
 use Rattle.pt_image.specs.declared.Parts.{Parts}
 use Rattle.tk_cert.specs.declared.cert.CertParts.{CertParts}
-use Rattle.tk_bound.specs.declared.view.Side.{Side}
-use Rattle.tk_bound.specs.declared.view.Side.TheVariants.{ToPause, ToEnd}
-use Rattle.tk_bound.specs.Words.{instr_at}
-use Rattle.tk_bound.specs.Kinds.{line_at, start_of}
-use Rattle.tk_bound.proofs.Slots.{without_last}
-use Rattle.tk_bound.proofs.Conditions.{IsAt}
-use Rattle.tk_bound.proofs.Carried.{kind_of, image_of, cert_of}
+use Rattle.tk_paths.specs.declared.view.Side.{Side}
+use Rattle.tk_paths.specs.declared.view.Side.TheVariants.{ToPause, ToEnd}
+use Rattle.tk_paths.specs.Words.{instr_at}
+use Rattle.tk_paths.specs.Kinds.{line_at, start_of}
+use Rattle.tk_paths.proofs.Slots.{without_last}
+use Rattle.tk_paths.proofs.Conditions.{IsAt}
+use Rattle.tk_paths.proofs.Carried.{kind_of, image_of, cert_of}
 use Rattle.tk_paths.specs.Passages.{Passage}
 use Rattle.tk_paths.specs.Reached.{both_sides}
 use Rattle.tk_paths.proofs.Flags.{new_entry}

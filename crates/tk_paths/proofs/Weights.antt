@@ -4,9 +4,9 @@ use Rattle.std.proofs.lemmas.Bool.Decides.{nat_tests}
 use Rattle.pt_image.specs.declared.Parts.{Parts}
 use Rattle.tk_cert.specs.declared.cert.CertParts.{CertParts}
 use Rattle.tk_cert.specs.Shapes.{RiseFrom}
-use Rattle.tk_bound.specs.Shape.{weight_in}
-use Rattle.tk_bound.proofs.Lists.{IsAmong}
-use Rattle.tk_bound.proofs.Accepts.{among-left, among-right}
+use Rattle.tk_paths.specs.Shape.{weight_in}
+use Rattle.tk_paths.proofs.Lists.{IsAmong}
+use Rattle.tk_paths.proofs.Accepts.{among-left, among-right}
 use Rattle.tk_paths.specs.Regions.{Region, Words, Then, Choice, Counted, Repeated, Calling, from, to, behind_half, half, word_place, behind, AreUnits, IsLaid}
 use Rattle.tk_paths.specs.Codes.{Code, Passed, Sequence, Either, Turns, Forever, Resting, Forking, Guarded, entry, exit, IsLaidIn}
 use Rattle.tk_paths.specs.Numbers.{tested_weight, plain_weight, region_weights, code_weights}

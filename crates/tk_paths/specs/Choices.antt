@@ -6,14 +6,14 @@ use Rattle.mb_isa.specs.declared.Instr.TheVariants as instr
 use Rattle.mb_isa.specs.Costs.{cost_of}
 use Rattle.pt_image.specs.declared.Parts.{Parts}
 use Rattle.tk_cert.specs.declared.cert.CertParts.{CertParts}
-use Rattle.tk_bound.specs.declared.view.Side.{Side}
-use Rattle.tk_bound.specs.declared.view.Side.TheVariants.{ToPause, ToEnd}
-use Rattle.tk_bound.specs.declared.word.Word.{Word}
-use Rattle.tk_bound.specs.declared.word.Word.TheVariants.{Does, Jump, Branch, Call, Loop}
-use Rattle.tk_bound.specs.Sums.{plus, all_ends, most, most_paused}
-use Rattle.tk_bound.specs.Words.{instr_at}
-use Rattle.tk_bound.specs.Kinds.{line_at, start_of, abort_at}
-use Rattle.tk_bound.specs.Acceptance.{stack_of, begins, more}
+use Rattle.tk_paths.specs.declared.view.Side.{Side}
+use Rattle.tk_paths.specs.declared.view.Side.TheVariants.{ToPause, ToEnd}
+use Rattle.tk_paths.specs.declared.word.Word.{Word}
+use Rattle.tk_paths.specs.declared.word.Word.TheVariants.{Does, Jump, Branch, Call, Loop}
+use Rattle.tk_paths.specs.Sums.{plus, all_ends, most, most_paused}
+use Rattle.tk_paths.specs.Words.{instr_at}
+use Rattle.tk_paths.specs.Kinds.{line_at, start_of, abort_at}
+use Rattle.tk_paths.specs.Acceptance.{stack_of, begins, more}
 use Rattle.tk_paths.specs.Regions.{Region, Words, Then, Choice, Counted, Repeated, Calling, to, behind, unit_word, extra, dearest_way}
 use Rattle.tk_paths.specs.Codes.{Code, Passed, Sequence, Either, Turns, Forever, Resting, Forking, Guarded}
 use Rattle.tk_paths.specs.Programs.{Section, OfThread, OfRoutine, OfCondition, Unused}

@@ -2,8 +2,8 @@
 use Rattle.std.specs.Prelude.{◌≡◌, ℕ, zero, suc, ◌+◌, ◌<◌, ◌≤◌, ◌++◌, ◌&&◌, ◌||◌, max, Bool, true, false, IsTrue, List, [], ◌∷◌, length, Some}
 use Rattle.pt_image.specs.declared.Parts.{Parts}
 use Rattle.pt_image.specs.Listed.{is_listed}
-use Rattle.tk_bound.specs.declared.word.Word.TheVariants.{Jump, Branch, Fork, Eot, Abrt, Leave}
-use Rattle.tk_bound.specs.Kinds.{abort_at}
+use Rattle.tk_paths.specs.declared.word.Word.TheVariants.{Jump, Branch, Fork, Eot, Abrt, Leave}
+use Rattle.tk_paths.specs.Kinds.{abort_at}
 use Rattle.tk_paths.specs.Regions.{Region, Words, Then, Choice, Counted, Repeated, Calling, from, to, links_in, counters_in, behind, IsUnit, IsWord, AreUnits, IsLaid}
 
 -- Regions that a thread passes, and places where it rests.

@@ -12,13 +12,13 @@ use Rattle.pt_image.specs.Ranges.{IsImage}
 use Rattle.tk_cert.specs.Form.{IsWalk}
 use Rattle.tk_cert.specs.declared.cert.Walk.{Walk}
 use Rattle.tk_cert.specs.declared.cert.CertParts.{CertParts}
-use Rattle.tk_bound.specs.declared.view.Side.{Side}
-use Rattle.tk_bound.specs.declared.view.Side.TheVariants.{ToPause, ToEnd}
-use Rattle.tk_bound.specs.Sums.{plus, greater, or_zero, resumed_most, resumed_paused, greatest}
-use Rattle.tk_bound.specs.Words.{instr_at}
-use Rattle.tk_bound.specs.Kinds.{start_of, abort_at}
-use Rattle.tk_bound.specs.Acceptance.{resumed, begins}
-use Rattle.tk_bound.specs.Walks.{most_cycles, states_of, IsCostOf}
+use Rattle.tk_paths.specs.declared.view.Side.{Side}
+use Rattle.tk_paths.specs.declared.view.Side.TheVariants.{ToPause, ToEnd}
+use Rattle.tk_paths.specs.Sums.{plus, greater, or_zero, resumed_most, resumed_paused, greatest}
+use Rattle.tk_paths.specs.Words.{instr_at}
+use Rattle.tk_paths.specs.Kinds.{start_of, abort_at}
+use Rattle.tk_paths.specs.Acceptance.{resumed, begins}
+use Rattle.tk_paths.specs.Walks.{most_cycles, states_of, IsCostOf}
 use Rattle.tk_paths.specs.Regions.{Region}
 use Rattle.tk_paths.specs.Greatest.{best, num, resting, tested, paused, waited, ending_sum, pausing_sum}
 use Rattle.tk_paths.specs.Programs.{Program, IsProgram, certificate}

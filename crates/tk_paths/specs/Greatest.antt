@@ -6,21 +6,21 @@ use Rattle.mb_isa.specs.declared.Class.TheVariants as class
 use Rattle.mb_isa.specs.Costs.{cost_of}
 use Rattle.pt_image.specs.declared.Point.{Point}
 use Rattle.pt_image.specs.declared.Parts.{Parts}
-use Rattle.mb_step.specs.Tick.{base_of}
+use Rattle.mb_isa.specs.Tick.{base_of}
 use Rattle.tk_cert.specs.declared.cert.CertParts.{CertParts}
-use Rattle.tk_bound.specs.declared.view.Side.{Side}
-use Rattle.tk_bound.specs.declared.view.Side.TheVariants.{ToPause, ToEnd}
-use Rattle.tk_bound.specs.declared.view.View.TheVariants.{On}
-use Rattle.tk_bound.specs.declared.word.Word.TheVariants.{Jump, Branch, Cend}
-use Rattle.tk_bound.specs.Sums.{plus, greater, all_ends, most_paused, resumed_ends, resumed_paused, greatest}
-use Rattle.tk_bound.specs.Words.{instr_at}
-use Rattle.tk_bound.specs.Kinds.{line_at, is_cond, upper_at, abort_at}
+use Rattle.tk_paths.specs.declared.view.Side.{Side}
+use Rattle.tk_paths.specs.declared.view.Side.TheVariants.{ToPause, ToEnd}
+use Rattle.tk_paths.specs.declared.view.View.TheVariants.{On}
+use Rattle.tk_paths.specs.declared.word.Word.TheVariants.{Jump, Branch, Cend}
+use Rattle.tk_paths.specs.Sums.{plus, greater, all_ends, most_paused, resumed_ends, resumed_paused, greatest}
+use Rattle.tk_paths.specs.Words.{instr_at}
+use Rattle.tk_paths.specs.Kinds.{line_at, is_cond, upper_at, abort_at}
 use Rattle.tk_cert.specs.Shapes.{IsCert}
 use Rattle.tk_cert.specs.Demands.{AllHold}
-use Rattle.tk_bound.specs.Acceptance.{number, value, resumed, begins, more, pauses, forks, resuming, bounded}
-use Rattle.tk_bound.specs.Shape.{shape}
-use Rattle.tk_bound.specs.Bounded.{IsAcceptedFor}
-use Rattle.tk_bound.specs.Walks.{most_cycles, IsWorst}
+use Rattle.tk_paths.specs.Acceptance.{number, value, resumed, begins, more, pauses, forks, resuming, bounded}
+use Rattle.tk_paths.specs.Shape.{shape}
+use Rattle.tk_paths.specs.Bounded.{IsAcceptedFor}
+use Rattle.tk_paths.specs.Walks.{most_cycles, IsWorst}
 use Rattle.tk_paths.specs.Reached.{IsOpen}
 use Rattle.tk_paths.specs.Regions.{Region, from, to, links_in, counters_in, behind, IsUnit, IsWord, AreUnits, IsLaid, extra, units_cost, through}
 

@@ -1,3 +1,10 @@
+pub mod Words
+pub mod Kinds
+pub mod Sums
+pub mod Shape
+pub mod Acceptance
+pub mod Bounded
+pub mod Walks
 pub mod Passages
 pub mod Reached
 pub mod Tight
@@ -10,3 +17,8 @@ pub mod Counts
 pub mod Choices
 pub mod Dearest
 pub mod Trees
+pub mod Faults
+pub mod Made
+pub mod Levels
+pub mod PlaceKinds
+pub mod Told

@@ -7,13 +7,13 @@ use Rattle.mb_isa.specs.Costs.{cost_of}
 use Rattle.pt_image.specs.declared.Parts.{Parts}
 use Rattle.tk_cert.specs.declared.cert.Line.{Line}
 use Rattle.tk_cert.specs.declared.cert.Line.TheVariants.{Thread, Routine, Cond}
-use Rattle.tk_bound.specs.declared.view.Side.{Side}
-use Rattle.tk_bound.specs.declared.view.Side.TheVariants.{ToPause, ToEnd}
-use Rattle.tk_bound.specs.declared.view.View.{View}
-use Rattle.tk_bound.specs.declared.view.View.TheVariants.{On, Value}
-use Rattle.tk_bound.specs.Sums.{plus, greater, or_zero, all_ends, most_paused}
-use Rattle.tk_bound.specs.Kinds.{abort_at}
-use Rattle.tk_bound.specs.Acceptance.{on_side, more}
+use Rattle.tk_paths.specs.declared.view.Side.{Side}
+use Rattle.tk_paths.specs.declared.view.Side.TheVariants.{ToPause, ToEnd}
+use Rattle.tk_paths.specs.declared.view.View.{View}
+use Rattle.tk_paths.specs.declared.view.View.TheVariants.{On, Value}
+use Rattle.tk_paths.specs.Sums.{plus, greater, or_zero, all_ends, most_paused}
+use Rattle.tk_paths.specs.Kinds.{abort_at}
+use Rattle.tk_paths.specs.Acceptance.{on_side, more}
 use Rattle.tk_paths.specs.Regions.{Region, Words, Then, Choice, Counted, Repeated, Calling, to, half, word_place, behind, unit_word, extra, word_cost, units_cost, tested_turn, plain_turn, leaving, through}
 use Rattle.tk_paths.specs.Greatest.{stays}
 use Rattle.tk_paths.specs.Codes.{Code, Passed, Sequence, Either, Turns, Forever, Resting, Forking, Guarded, exit}

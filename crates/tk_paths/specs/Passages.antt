@@ -2,9 +2,9 @@
 use Rattle.std.specs.Prelude.{◌≡◌, ℕ, ◌≤◌, Bool, List, [], ◌∷◌, ◌++◌}
 use Rattle.mb_pfu.specs.Unit.{State}
 use Rattle.pt_image.specs.declared.Parts.{Parts}
-use Rattle.mb_step.specs.Control.{Control, Turn, Condition, goes, tests_on, answered}
-use Rattle.mb_step.specs.Free.{free}
-use Rattle.mb_step.specs.Tick.{Steps}
+use Rattle.mb_isa.specs.Control.{Control, Turn, Condition, goes, tests_on, answered}
+use Rattle.mb_isa.specs.Free.{free}
+use Rattle.mb_isa.specs.Tick.{Steps}
 
 -- no slot is inside a routine or a bounded loop
 abbrev pub IsUnnested : State → Type 0

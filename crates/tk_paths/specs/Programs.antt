@@ -7,23 +7,23 @@ use Rattle.mb_isa.specs.Costs.{IsCosts}
 use Rattle.pt_image.specs.declared.Point.{Point}
 use Rattle.pt_image.specs.declared.Parts.{Parts}
 use Rattle.pt_image.specs.Ranges.{IsImage}
-use Rattle.mb_step.specs.Tick.{base_of}
+use Rattle.mb_isa.specs.Tick.{base_of}
 use Rattle.tk_cert.specs.declared.cert.Line.{Line}
 use Rattle.tk_cert.specs.declared.cert.Line.TheVariants.{Bare}
 use Rattle.tk_cert.specs.declared.cert.Walk.{Walk}
 use Rattle.tk_cert.specs.declared.cert.CertParts.{CertParts}
 use Rattle.tk_cert.specs.Demands.{AllHold}
-use Rattle.tk_bound.specs.declared.view.Side.{Side}
-use Rattle.tk_bound.specs.declared.view.Side.TheVariants.{ToPause, ToEnd}
-use Rattle.tk_bound.specs.declared.view.View.TheVariants.{On, Value}
-use Rattle.tk_bound.specs.declared.word.Word.TheVariants.{End, Ret, Cend}
-use Rattle.tk_bound.specs.Sums.{greater, greatest}
-use Rattle.tk_bound.specs.Words.{instr_at}
-use Rattle.tk_bound.specs.Kinds.{start_of, abort_at}
-use Rattle.tk_bound.specs.Shape.{apart}
-use Rattle.tk_bound.specs.Acceptance.{on_side}
-use Rattle.tk_bound.specs.Bounded.{IsAcceptedFor}
-use Rattle.tk_bound.specs.Walks.{most_cycles, IsWorst}
+use Rattle.tk_paths.specs.declared.view.Side.{Side}
+use Rattle.tk_paths.specs.declared.view.Side.TheVariants.{ToPause, ToEnd}
+use Rattle.tk_paths.specs.declared.view.View.TheVariants.{On, Value}
+use Rattle.tk_paths.specs.declared.word.Word.TheVariants.{End, Ret, Cend}
+use Rattle.tk_paths.specs.Sums.{greater, greatest}
+use Rattle.tk_paths.specs.Words.{instr_at}
+use Rattle.tk_paths.specs.Kinds.{start_of, abort_at}
+use Rattle.tk_paths.specs.Shape.{apart}
+use Rattle.tk_paths.specs.Acceptance.{on_side}
+use Rattle.tk_paths.specs.Bounded.{IsAcceptedFor}
+use Rattle.tk_paths.specs.Walks.{most_cycles, IsWorst}
 use Rattle.tk_paths.specs.Regions.{Region, from, to, links_in, IsWord, AreUnits, IsLaid}
 use Rattle.tk_paths.specs.Greatest.{best, paused, waited, beginnings, IsGreatest}
 use Rattle.tk_paths.specs.Codes.{Code, entry, exit, loops_in, EachCalled, EachCall, can_end, IsLasting, IsLaidIn}

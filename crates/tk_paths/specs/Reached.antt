@@ -2,11 +2,11 @@
 use Rattle.std.specs.Prelude.{◌≡◌, ◌⊎◌, ℕ, zero, suc, ◌+◌, IsTrue, IsFalse, List, [], ◌∷◌, Option, Some, None}
 use Rattle.pt_image.specs.declared.Parts.{Parts}
 use Rattle.tk_cert.specs.declared.cert.CertParts.{CertParts}
-use Rattle.tk_bound.specs.declared.view.Side.{Side}
-use Rattle.tk_bound.specs.declared.view.Side.TheVariants.{ToPause, ToEnd}
-use Rattle.tk_bound.specs.declared.view.View.TheVariants.{On}
-use Rattle.tk_bound.specs.Kinds.{line_at, is_thread, upper_at, abort_at}
-use Rattle.tk_bound.specs.Acceptance.{number, value, resumed, begins}
+use Rattle.tk_paths.specs.declared.view.Side.{Side}
+use Rattle.tk_paths.specs.declared.view.Side.TheVariants.{ToPause, ToEnd}
+use Rattle.tk_paths.specs.declared.view.View.TheVariants.{On}
+use Rattle.tk_paths.specs.Kinds.{line_at, is_thread, upper_at, abort_at}
+use Rattle.tk_paths.specs.Acceptance.{number, value, resumed, begins}
 
 -- a group comes to its end where each of two parts does
 abbrev pub both_sides : Side → Side → Side

@@ -5,11 +5,11 @@ use Rattle.mb_isa.specs.declared.Class.TheVariants as class
 use Rattle.mb_isa.specs.Costs.{cost_of}
 use Rattle.mb_pfu.specs.Unit.{State}
 use Rattle.pt_image.specs.declared.Parts.{Parts}
-use Rattle.mb_step.specs.Control.{Turn, goes}
-use Rattle.tk_bound.specs.declared.word.Word.{Word}
-use Rattle.tk_bound.specs.declared.word.Word.TheVariants.{Does, Jump, Branch, Call, Ret, Loop, Next, Drop}
-use Rattle.tk_bound.specs.Words.{instr_at, read}
-use Rattle.tk_bound.specs.Kinds.{imm_in}
+use Rattle.mb_isa.specs.Control.{Turn, goes}
+use Rattle.tk_paths.specs.declared.word.Word.{Word}
+use Rattle.tk_paths.specs.declared.word.Word.TheVariants.{Does, Jump, Branch, Call, Ret, Loop, Next, Drop}
+use Rattle.tk_paths.specs.Words.{instr_at, read}
+use Rattle.tk_paths.specs.Kinds.{imm_in}
 use Rattle.tk_paths.specs.Passages.{Leads, Passage}
 
 -- Straight code is made of units: a word, or an `imm` and the word behind it. Branches and jumps are such units too.

@@ -6,15 +6,15 @@ use Rattle.mb_isa.specs.declared.Class.TheVariants as class
 use Rattle.mb_isa.specs.Costs.{cost_of}
 use Rattle.pt_image.specs.declared.Parts.{Parts}
 use Rattle.pt_image.specs.Listed.{is_listed}
-use Rattle.mb_step.specs.Tick.{base_of}
+use Rattle.mb_isa.specs.Tick.{base_of}
 use Rattle.tk_cert.specs.declared.cert.CertParts.{CertParts}
-use Rattle.tk_bound.specs.declared.view.Side.{Side}
-use Rattle.tk_bound.specs.declared.view.Side.TheVariants.{ToEnd}
-use Rattle.tk_bound.specs.Words.{instr_at}
-use Rattle.tk_bound.specs.Kinds.{line_at, is_cond, upper_at}
-use Rattle.tk_bound.specs.Acceptance.{value, resumed, begins}
-use Rattle.tk_bound.specs.Bounded.{IsAcceptedFor}
-use Rattle.tk_bound.specs.Walks.{most_cycles, IsWorst}
+use Rattle.tk_paths.specs.declared.view.Side.{Side}
+use Rattle.tk_paths.specs.declared.view.Side.TheVariants.{ToEnd}
+use Rattle.tk_paths.specs.Words.{instr_at}
+use Rattle.tk_paths.specs.Kinds.{line_at, is_cond, upper_at}
+use Rattle.tk_paths.specs.Acceptance.{value, resumed, begins}
+use Rattle.tk_paths.specs.Bounded.{IsAcceptedFor}
+use Rattle.tk_paths.specs.Walks.{most_cycles, IsWorst}
 use Rattle.tk_paths.specs.Passages.{Passage, Asked}
 use Rattle.tk_paths.specs.Reached.{IsOpen, Has, Rests, After, Sum, Resumed, Tested}
 

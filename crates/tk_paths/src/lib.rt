@@ -1,93 +1,59 @@
-//! The paths behind the numbers of a certificate: where each number is one that acceptance asks of it, exactly, there is a
-//! free tick that costs just the bound.
+//! Certificates and what their numbers mean: what a certificate asks, and what it is worth; the paths behind its numbers; the
+//! certificate of a program; and such numbers in memory.
 //!
-//! And the certificate of a program, whose numbers are told from how its code lies in the image: it is accepted, and its bound is
-//! the worst.
+//! Where all demands hold and a tick may take as many cycles as the bound, no free tick traps or is charged more than the bound,
+//! and no tick of a run is charged more than the bound or traps but at a bad address. Read `Words`, `Kinds`, `Sums`, `Shape`,
+//! `Acceptance`, `Bounded` and `Walks` in `specs/` in this order; `docs/bounds.md` says the same in words. The functions of
+//! `bound_laws` do nothing: their contracts are the theorem.
 //!
-//! Read `Passages`, `Reached`, `Tight`, `Regions`, `Greatest`, `Codes`, `Numbers`, `Programs` and `Counts` in `specs/` in this order;
-//! `docs/bounds.md`, "Tight certificates" to "Programs", says the same in words. A `Program` is one
-//! in memory, and `specs/Trees.antt` says which program of the definition it is. The functions below do nothing: their contracts are
+//! Where each number of a certificate is one that acceptance asks of it, exactly, there is a free tick that costs just the bound.
+//! And the certificate of a program, whose numbers are told from how its code lies in the image, is accepted, and its bound is
+//! the worst. Read `Passages`, `Reached`, `Tight`, `Regions`, `Greatest`, `Codes`, `Numbers`, `Programs` and `Counts` in `specs/`
+//! in this order; `docs/bounds.md`, "Tight certificates" to "Programs", says the same in words. A `Program` is one in memory, and
+//! `specs/Trees.antt` says which program of the definition it is. The functions of `path_laws` do nothing: their contracts are
 //! the theorems.
+//!
+//! In memory, `Levels` are the numbers of the definition (`Numbers`), whatever is behind a place, and each function on them is
+//! the definition's; `line` is a place's line. `slot_bounds` gives the numbers of all slots just as the definition tells them
+//! (`slots_from`), from the highest slot down, and `bound_of` the bound. A sum is exact, or `TooLarge` where it is over
+//! 1,000,000,000,000.
 #![tactic(auto)]
 
+mod bound_laws;
+mod counts;
+mod fault;
+mod joins;
+mod kinds;
+mod levels;
+mod made;
+mod numbers;
+mod path_laws;
+mod resuming;
+mod slots;
 mod trees;
+mod view;
+mod word;
 
-ghost use Rattle.tk_paths.specs.Tight.{TightIsWorst};
-ghost use Rattle.tk_paths.specs.Greatest.{BeginningsAreCovered, GreatestIsWorst, RestsAreCovered};
-ghost use Rattle.tk_paths.specs.Regions.{RegionsAreCrossed, RegionsArePassages};
-ghost use Rattle.tk_paths.specs.Programs.{ProgramBoundsAreWorst, ProgramsAreAccepted};
-ghost use Rattle.tk_paths.specs.Counts.{CertificatesAreInForm, NumbersAreCounted, SmallCountsAreKept};
-ghost use Rattle.tk_paths.specs.Dearest.{WalksAreInForm, WalksCostTheBound};
-
+pub use bound_laws::{a_reached_bound_is_worst, a_yes_bounds_free_ticks, a_yes_bounds_runs};
+pub use counts::{MOST, greater, more, plus, product, sum};
+pub use fault::Fault;
+pub use joins::{resumed_ends, resumed_paused};
+pub use kinds::{Kind, in_loop, line};
+pub use levels::{
+    Levels, Pair, added, after, branched, copied, dearer, first_levels, just, level_at, nothing,
+    value,
+};
+pub use made::Made;
+pub use numbers::{abort_at, instr_at, number, or_zero, pair_at, start_of, value_at};
+pub use path_laws::{
+    a_greatest_bound_is_worst, a_program_bound_is_worst, a_program_is_accepted,
+    a_program_is_counted, a_program_walk_costs_the_bound, a_program_walk_is_in_form,
+    a_region_is_a_passage, a_region_is_crossed, a_small_program_has_small_numbers,
+    a_small_program_is_in_form, a_tight_bound_is_worst, greatest_numbers_cover_beginnings,
+    greatest_numbers_cover_rests,
+};
+pub use resuming::{paused, waited};
+pub use slots::{bound_of, slot_bounds};
 pub use trees::{Code, Program, Region, Section};
-
-/// The bound of a certificate that is accepted and tight is the worst of its image: some free tick costs just as much, and
-/// none costs more.
-pub fn a_tight_bound_is_worst()
-    ensures { TightIsWorst }
-{}
-
-/// A region of code in which no slot rests is crossed at the cost of its dearest way, by that way's choices, whatever is round
-/// it: its loops turn as often as they say, and its routines return.
-pub fn a_region_is_crossed()
-    ensures { RegionsAreCrossed }
-{}
-
-/// So it is a passage, which tight certificates may be made of.
-pub fn a_region_is_a_passage()
-    ensures { RegionsArePassages }
-{}
-
-/// The bound of a certificate that is accepted and whose numbers are the greatest that is asked of them, each told from those
-/// to which it leads, is the worst of its image.
-pub fn a_greatest_bound_is_worst()
-    ensures { GreatestIsWorst }
-{}
-
-/// Such numbers hold the conditions of acceptance on what is resumed and on the bound.
-pub fn greatest_numbers_cover_beginnings()
-    ensures { BeginningsAreCovered }
-{}
-
-/// Where the shape of a certificate holds as well, such numbers hold the conditions of acceptance on pauses and forks.
-pub fn greatest_numbers_cover_rests()
-    ensures { RestsAreCovered }
-{}
-
-/// The certificate of a program, with any walk, is accepted whatever the words cost, and its numbers are the greatest.
-pub fn a_program_is_accepted()
-    ensures { ProgramsAreAccepted }
-{}
-
-/// So its bound is the worst of the image.
-pub fn a_program_bound_is_worst()
-    ensures { ProgramBoundsAreWorst }
-{}
-
-/// And the walk that is told of it costs just that bound: which slots are where as its tick begins, what the conditions answer, and
-/// which way each branch goes.
-pub fn a_program_walk_costs_the_bound()
-    ensures { WalksCostTheBound }
-{}
-
-/// That walk is within the ranges of a certificate's file: its states have places of the code, and it has no more choices than it
-/// costs.
-pub fn a_program_walk_is_in_form()
-    ensures { WalksAreInForm }
-{}
-
-/// And no number of it is greater than a count of the program's words: so the certificate can be written down, and the bound is
-/// within what a walk may cost, where these counts are small enough.
-pub fn a_program_is_counted()
-    ensures { NumbersAreCounted }
-{}
-
-/// So where the counts are small enough the certificate, with any walk of the file's form, is within the ranges of its file.
-pub fn a_small_program_is_in_form()
-    ensures { CertificatesAreInForm }
-{}
-
-/// And no number is greater than 1,000,000,000,000, nor is what the children of a fork come to.
-pub fn a_small_program_has_small_numbers()
-    ensures { SmallCountsAreKept }
-{}
+pub use view::{Side, View};
+pub use word::Word;

@@ -6,8 +6,8 @@ use Rattle.std.proofs.Math.Seq.{drop-cons}
 use Rattle.pt_image.specs.declared.AbortLine.{AbortLine}
 use Rattle.pt_image.specs.declared.Parts.{Parts}
 use Rattle.tk_cert.specs.declared.cert.CertParts.{CertParts}
-use Rattle.tk_bound.specs.Kinds.{line_at, is_thread, is_cond, abort_at, no_abort}
-use Rattle.tk_bound.specs.Shape.{aborts_are_shaped}
+use Rattle.tk_paths.specs.Kinds.{line_at, is_thread, is_cond, abort_at, no_abort}
+use Rattle.tk_paths.specs.Shape.{aborts_are_shaped}
 use Rattle.tk_shape.specs.Calling.{line_is_fit, abort_is_shaped}
 
 take-suc : (l : List ℕ) (d : ℕ) → d < length l → take (suc d) l ≡ take d l ++ slice_index_or l d 0 ∷ []

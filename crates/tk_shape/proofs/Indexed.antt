@@ -9,8 +9,8 @@ use Rattle.std.proofs.lemmas.Map.Keys.{IsDistinct-tail, IsDistinct-head}
 use Rattle.pt_image.specs.declared.Point.{Point}
 use Rattle.pt_image.specs.Ranges.{places_of}
 use Rattle.tk_cert.specs.Shapes.{RiseFrom}
-use Rattle.tk_bound.specs.Kinds.{points_at}
-use Rattle.tk_bound.specs.Shape.{weight_in}
+use Rattle.tk_paths.specs.Kinds.{points_at}
+use Rattle.tk_paths.specs.Shape.{weight_in}
 use Rattle.tk_shape.specs.Looking.{found}
 
 -- the first ones and one more

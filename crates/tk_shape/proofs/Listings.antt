@@ -4,7 +4,7 @@ use Rattle.std.specs.Prelude.{if◌then◌else◌}
 use Rattle.std.specs.List.{list_any}
 use Rattle.pt_image.specs.declared.Point.{Point}
 use Rattle.pt_image.specs.Listed.{is_listed, is_point, same_numbers}
-use Rattle.tk_bound.specs.Kinds.{points_at}
+use Rattle.tk_paths.specs.Kinds.{points_at}
 use Rattle.tk_shape.specs.Looking.{is_from}
 
 by-place : (b : Bool) (place slot : ℕ) (stack : List ℕ) (p : Point) (points : List Point) → is_listed points place slot stack ≡ list_any (is_from slot stack) (points_at points place) →

@@ -4,8 +4,8 @@ use Rattle.std.specs.Option.{option_or}
 use Rattle.pt_image.specs.declared.Parts.{Parts}
 use Rattle.tk_cert.specs.declared.cert.CertParts.{CertParts}
 use Rattle.tk_cert.specs.Demands.{Demand, shape_demand}
-use Rattle.tk_bound.specs.Kinds.{places_of}
-use Rattle.tk_bound.specs.Shape.{shape, place_is_shaped, tables_fit}
+use Rattle.tk_paths.specs.Kinds.{places_of}
+use Rattle.tk_paths.specs.Shape.{shape, place_is_shaped, tables_fit}
 use Rattle.tk_shape.specs.Refused.{refused}
 use Rattle.tk_shape.proofs.Refusals.{refused_append}
 use Rattle.std.specs.List.{list_all, range_with_len}

@@ -3,7 +3,7 @@ use Rattle.std.specs.Prelude.{ℕ, ◌==◌, Bool, List, ◌++◌}
 use Rattle.std.specs.List.{list_any}
 use Rattle.pt_image.specs.declared.Parts.{Parts}
 use Rattle.tk_cert.specs.declared.cert.Line.{Line}
-use Rattle.tk_bound.specs.Kinds.{asked_by_aborts, asked_by_word, word_in}
+use Rattle.tk_paths.specs.Kinds.{asked_by_aborts, asked_by_word, word_in}
 
 abbrev pub is_for : ℕ → ℕ → Bool
 is_for place goal = goal == place

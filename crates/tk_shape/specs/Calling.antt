@@ -5,8 +5,8 @@ use Rattle.pt_image.specs.declared.Point.{Point}
 use Rattle.pt_image.specs.declared.Parts.{Parts}
 use Rattle.tk_cert.specs.declared.cert.CertParts.{CertParts}
 use Rattle.tk_cert.specs.Demands.{Demand, shape_demand}
-use Rattle.tk_bound.specs.Kinds.{line_at, is_thread, is_cond, word_at}
-use Rattle.tk_bound.specs.Shape.{children_start, says_well, word_is_shaped, place_is_shaped}
+use Rattle.tk_paths.specs.Kinds.{line_at, is_thread, is_cond, word_at}
+use Rattle.tk_paths.specs.Shape.{children_start, says_well, word_is_shaped, place_is_shaped}
 use Rattle.tk_cert.specs.declared.cert.Line.{Line}
 use Rattle.tk_cert.specs.declared.cert.Line.TheVariants.{Bare, Thread, Routine, Cond}
 

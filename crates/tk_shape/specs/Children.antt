@@ -2,10 +2,10 @@
 use Rattle.std.specs.Prelude.{ℕ, Option, slice_get}
 use Rattle.pt_image.specs.declared.Parts.{Parts}
 use Rattle.tk_cert.specs.declared.cert.CertParts.{CertParts}
-use Rattle.tk_bound.specs.declared.view.Side.{Side}
-use Rattle.tk_bound.specs.declared.view.View.TheVariants.{On}
-use Rattle.tk_bound.specs.Kinds.{line_at, start_of}
-use Rattle.tk_bound.specs.Acceptance.{on_side, number_in}
+use Rattle.tk_paths.specs.declared.view.Side.{Side}
+use Rattle.tk_paths.specs.declared.view.View.TheVariants.{On}
+use Rattle.tk_paths.specs.Kinds.{line_at, start_of}
+use Rattle.tk_paths.specs.Acceptance.{on_side, number_in}
 
 -- a number of a slot that starts
 abbrev pub starting : Parts → CertParts → Side → ℕ → Option ℕ

@@ -5,8 +5,8 @@ use Rattle.pt_image.specs.declared.Point.{Point}
 use Rattle.pt_image.specs.declared.Parts.{Parts}
 use Rattle.pt_image.specs.Listed.{same_numbers}
 use Rattle.tk_cert.specs.declared.cert.CertParts.{CertParts}
-use Rattle.tk_bound.specs.Kinds.{points_at, is_asked}
-use Rattle.tk_bound.specs.Shape.{weight_in}
+use Rattle.tk_paths.specs.Kinds.{points_at, is_asked}
+use Rattle.tk_paths.specs.Shape.{weight_in}
 use Rattle.tk_shape.specs.Marked.{is_marked}
 use Rattle.tk_shape.specs.declared.tables.Tables.{Tables}
 

@@ -2,9 +2,9 @@
 
 ghost use Rattle.std.specs.Prelude.{◌≡◌, ◌≤◌, ◌<◌, ◌++◌, ◌+◌, ◌^◌, ◌==◌, ℕ, map, slice_get, Some, None, length, [], ◌∷◌};
 ghost use Rattle.std.specs.List.{list_any, flat_map, range_with_len};
-ghost use Rattle.tk_bound.specs.declared.word.Word.TheVariants.{Next};
-ghost use Rattle.tk_bound.specs.Kinds.{line_at, place_in, places_of, word_in, places_of_abort, asked_by_aborts, asked_by_word};
-ghost use Rattle.tk_bound.specs.Kinds.{asked_from, is_asked};
+ghost use Rattle.tk_paths.specs.declared.word.Word.TheVariants.{Next};
+ghost use Rattle.tk_paths.specs.Kinds.{line_at, place_in, places_of, word_in, places_of_abort, asked_by_aborts, asked_by_word};
+ghost use Rattle.tk_paths.specs.Kinds.{asked_from, is_asked};
 ghost use Rattle.tk_shape.specs.Asking.{asked_by_line};
 ghost use Rattle.tk_shape.specs.Marked.{is_marked, IsMore};
 
@@ -12,8 +12,8 @@ use crate::kinds::{loops_of, start_of};
 use crate::marks::Marks;
 use crate::reading::word_in;
 use pt_image::{Image, Point};
-use tk_bound::Word;
 use tk_cert::{Cert, Line};
+use tk_paths::Word;
 
 // Marks the condition and the handler of an abort, if it stands in the table.
 fn mark_abort(marks: &mut Marks, image: &Image, j: u32)

@@ -4,7 +4,7 @@ ghost use Rattle.std.specs.Prelude.{◌≡◌, ℕ, ◌<◌, ◌≤◌, ◌==◌
 ghost use Rattle.std.specs.List.{IsDistinct};
 ghost use Rattle.pt_image.specs.Ranges.{places_of};
 ghost use Rattle.tk_cert.specs.Shapes.{RiseFrom};
-ghost use Rattle.tk_bound.specs.Shape.{weight_in};
+ghost use Rattle.tk_paths.specs.Shape.{weight_in};
 ghost use Rattle.tk_shape.specs.Looking.{number_at, found, IsIndexed, AreWeighed};
 
 use pt_image::Point;

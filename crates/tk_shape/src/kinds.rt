@@ -3,7 +3,7 @@
 ghost use Rattle.std.specs.Prelude.{◌≡◌, ◌<◌, ◌++◌, [], ◌∷◌, Option, option_map, Some, None, length};
 ghost use Rattle.pt_image.specs.Listed.{same_numbers};
 ghost use Rattle.mb_pfu.specs.Calls.{last_of};
-ghost use Rattle.tk_bound.specs.Kinds.{line_at, is_thread, is_routine, is_cond, loops_of, is_inside, same_kind, start_of};
+ghost use Rattle.tk_paths.specs.Kinds.{line_at, is_thread, is_routine, is_cond, loops_of, is_inside, same_kind, start_of};
 
 use pt_image::Image;
 use tk_cert::{Cert, Line};

@@ -1,15 +1,15 @@
 //! The numbers of a certificate.
 
 ghost use Rattle.std.specs.Prelude.{◌≡◌, Some, slice_get, length};
-ghost use Rattle.tk_bound.specs.declared.view.View.TheVariants.{On};
-ghost use Rattle.tk_bound.specs.Kinds.{line_at};
-ghost use Rattle.tk_bound.specs.Acceptance.{on_side, number_in, value_of, level_of, stack_of, levels_of};
+ghost use Rattle.tk_paths.specs.declared.view.View.TheVariants.{On};
+ghost use Rattle.tk_paths.specs.Kinds.{line_at};
+ghost use Rattle.tk_paths.specs.Acceptance.{on_side, number_in, value_of, level_of, stack_of, levels_of};
 ghost use Rattle.tk_shape.specs.Children.{starting, restarted};
 
 use crate::kinds::start_of;
 use pt_image::Image;
-use tk_bound::{Side, View};
 use tk_cert::{Cert, Line};
+use tk_paths::{Side, View};
 
 // One of two numbers.
 fn on_side(side: Side, numbers: &(Option<u64>, Option<u64>)) -> Option<u64>

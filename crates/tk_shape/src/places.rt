@@ -3,9 +3,9 @@
 ghost use Rattle.std.specs.Prelude.{◌≡◌, ◌<◌, ◌^◌, ◌&&◌, false, [], ◌∷◌, Some, None, take, drop, option_map};
 ghost use Rattle.std.specs.List.{list_all, flat_map};
 ghost use Rattle.tk_cert.specs.Demands.{shape_demand};
-ghost use Rattle.tk_bound.specs.Kinds.{line_at, places_of, word_at, points_at};
-ghost use Rattle.tk_bound.specs.Shape.{has_number, is_pause_word, is_fork_word, word_is_shaped, aborts_are_shaped, says_well};
-ghost use Rattle.tk_bound.specs.Shape.{line_is_shaped, pause_is_shaped, fork_is_shaped, place_is_shaped, tables_fit, shape};
+ghost use Rattle.tk_paths.specs.Kinds.{line_at, places_of, word_at, points_at};
+ghost use Rattle.tk_paths.specs.Shape.{has_number, is_pause_word, is_fork_word, word_is_shaped, aborts_are_shaped, says_well};
+ghost use Rattle.tk_paths.specs.Shape.{line_is_shaped, pause_is_shaped, fork_is_shaped, place_is_shaped, tables_fit, shape};
 ghost use Rattle.tk_shape.specs.Calling.{abort_is_shaped, speaks_well, shape_at};
 ghost use Rattle.tk_shape.specs.Looking.{AreTables};
 ghost use Rattle.std.specs.Option.{option_to_list};

@@ -1,13 +1,13 @@
 //! What the words of an image come to.
 
 ghost use Rattle.std.specs.Prelude.{◌≡◌, ◌<◌, Some};
-ghost use Rattle.tk_bound.specs.Words.{instr_at, goal_of, word_of, read_instr};
-ghost use Rattle.tk_bound.specs.Kinds.{line_at, imm_in, upper_behind, upper_at, word_in, word_at};
+ghost use Rattle.tk_paths.specs.Words.{instr_at, goal_of, word_of, read_instr};
+ghost use Rattle.tk_paths.specs.Kinds.{line_at, imm_in, upper_behind, upper_at, word_in, word_at};
 
 use mb_isa::{Instr, branch_place, class, decode, immediate, takes_upper, turns};
 use pt_image::Image;
-use tk_bound::Word;
 use tk_cert::{Cert, Line};
+use tk_paths::Word;
 
 /// The instruction at a place, if there is one.
 pub fn instr_at(image: &Image, place: usize) -> Option<Instr>

@@ -2,8 +2,8 @@
 
 ghost use Rattle.std.specs.Prelude.{◌≡◌, ◌≤◌, ◌^◌, IfSome};
 ghost use Rattle.tk_cert.specs.Demands.{at_least, shape_demand};
-ghost use Rattle.tk_bound.specs.Sums.{lowered};
-ghost use Rattle.tk_bound.specs.Acceptance.{more};
+ghost use Rattle.tk_paths.specs.Sums.{lowered};
+ghost use Rattle.tk_paths.specs.Acceptance.{more};
 ghost use Rattle.tk_shape.specs.Refused.{refused};
 
 /// The demand that fails: the number of its condition, the place, the level, what is needed, and the number that is given,

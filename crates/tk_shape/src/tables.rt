@@ -3,8 +3,8 @@
 ghost use Rattle.std.specs.Prelude.{◌≡◌, ◌<◌, ℕ, option_map, IfSome, length};
 ghost use Rattle.std.specs.Option.{option_to_list};
 ghost use Rattle.pt_image.specs.Listed.{is_listed};
-ghost use Rattle.tk_bound.specs.Kinds.{points_at, is_asked};
-ghost use Rattle.tk_bound.specs.Shape.{weight_in};
+ghost use Rattle.tk_paths.specs.Kinds.{points_at, is_asked};
+ghost use Rattle.tk_paths.specs.Shape.{weight_in};
 ghost use Rattle.tk_shape.specs.Looking.{HasFew, AreTables};
 
 use crate::asked::asked;

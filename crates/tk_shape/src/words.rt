@@ -1,10 +1,10 @@
 //! Words that stand and lead as they may.
 
 ghost use Rattle.std.specs.Prelude.{◌≡◌, ◌≤◌, ◌<◌, ◌+◌, ◌^◌, ◌++◌, ◌&&◌, nat_lt, nat_le, not, [], ◌∷◌, Some, None, length, option_map};
-ghost use Rattle.tk_bound.specs.declared.word.Word.TheVariants.{Imm, Eot, Fork, End, Abrt, Leave, Call, Ret, Loop, Next, Drop};
-ghost use Rattle.tk_bound.specs.Kinds.{line_at, is_thread, is_routine, is_cond, is_inside, loops_of, is_asked};
-ghost use Rattle.tk_bound.specs.Shape.{may_follow, may_return, may_loop, leads, children_start, word_is_shaped};
-ghost use Rattle.tk_bound.specs.Words.{instr_at};
+ghost use Rattle.tk_paths.specs.declared.word.Word.TheVariants.{Imm, Eot, Fork, End, Abrt, Leave, Call, Ret, Loop, Next, Drop};
+ghost use Rattle.tk_paths.specs.Kinds.{line_at, is_thread, is_routine, is_cond, is_inside, loops_of, is_asked};
+ghost use Rattle.tk_paths.specs.Shape.{may_follow, may_return, may_loop, leads, children_start, word_is_shaped};
+ghost use Rattle.tk_paths.specs.Words.{instr_at};
 ghost use Rattle.tk_shape.specs.Calling.{callable, may_have};
 ghost use Rattle.tk_shape.specs.Looking.{is_from, AreTables};
 ghost use Rattle.std.specs.List.{list_any};
@@ -20,8 +20,8 @@ use crate::reading::instr_at;
 use crate::tables::{Tables, fork_at, pause_at};
 use mb_isa::{Instr, takes_upper};
 use pt_image::{Image, Point};
-use tk_bound::Word;
 use tk_cert::{Cert, Line};
+use tk_paths::Word;
 
 // Whether a place that is there has the kind of a line.
 fn leads(image: &Image, cert: &Cert, line: &Line, to: Option<u32>) -> bool

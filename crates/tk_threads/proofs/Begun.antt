@@ -5,19 +5,19 @@ use Rattle.std.specs.List.{range_with_len}
 use Rattle.mb_isa.specs.declared.Class.TheVariants as class
 use Rattle.mb_isa.specs.Costs.{cost_of}
 use Rattle.pt_image.specs.declared.Parts.{Parts}
-use Rattle.tk_bound.specs.declared.view.Side.TheVariants.{ToPause, ToEnd}
-use Rattle.tk_bound.specs.Acceptance.{on_side}
-use Rattle.tk_bound.specs.declared.view.View.{View}
-use Rattle.tk_bound.specs.declared.view.View.TheVariants.{On, Value}
+use Rattle.tk_paths.specs.declared.view.Side.TheVariants.{ToPause, ToEnd}
+use Rattle.tk_paths.specs.Acceptance.{on_side}
+use Rattle.tk_paths.specs.declared.view.View.{View}
+use Rattle.tk_paths.specs.declared.view.View.TheVariants.{On, Value}
 use Rattle.tk_paths.specs.declared.Section.{Section as KeptSection}
 use Rattle.tk_paths.specs.declared.Section.TheVariants as kept
 use Rattle.tk_paths.specs.Regions.{Region}
 use Rattle.tk_paths.specs.Numbers.{level, entered}
 use Rattle.tk_paths.specs.Programs.{Section, pair_from, ended, starts_from}
 use Rattle.tk_paths.specs.Trees.{read_code, read_sections, threads_in, code_of}
-use Rattle.tk_levels.specs.declared.levels.Levels.{Levels}
+use Rattle.tk_paths.specs.declared.levels.Levels.{Levels}
 use Rattle.tk_numbers.specs.Charges.{routines_in}
-use Rattle.tk_levels.specs.Levels.{level_in, numbers_of}
+use Rattle.tk_paths.specs.Levels.{level_in, numbers_of}
 use Rattle.tk_threads.specs.Sections.{read_section, is_own, own_code, is_thread}
 use Rattle.tk_threads.proofs.Before.{reads_on}
 

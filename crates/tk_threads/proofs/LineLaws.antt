@@ -4,7 +4,7 @@ use mathlib.Core.Path.{ap₂}
 use Rattle.mb_isa.specs.declared.Class.TheVariants as class
 use Rattle.pt_image.specs.declared.Parts.{Parts}
 use Rattle.tk_cert.specs.declared.cert.Line.{Line}
-use Rattle.tk_bound.specs.declared.view.Side.{Side}
+use Rattle.tk_paths.specs.declared.view.Side.{Side}
 use Rattle.tk_paths.specs.Codes.{Code, Either, Turns, Forever, Guarded, exit}
 use Rattle.tk_paths.specs.Numbers.{Kind, thread, stack_of, Numbers, Handler, cost, nothing, line, after, branched, jumping, testing}
 use Rattle.tk_paths.specs.Numbers.{test_lines, jump_lines, left, with_abort, entered, code_lines, code_weights}

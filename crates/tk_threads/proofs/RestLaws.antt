@@ -5,17 +5,17 @@ use Rattle.std.proofs.lemmas.Bool.{cases_lt}
 use Rattle.std.proofs.lemmas.List.{drop_all}
 use Rattle.mb_isa.specs.declared.Class.TheVariants as class
 use Rattle.pt_image.specs.declared.Parts.{Parts}
-use Rattle.tk_bound.specs.declared.view.Side.{Side}
-use Rattle.tk_bound.specs.declared.view.Side.TheVariants.{ToPause, ToEnd}
-use Rattle.tk_bound.specs.declared.view.View.TheVariants.{On, Value}
-use Rattle.tk_bound.specs.Sums.{plus, greater}
-use Rattle.tk_bound.specs.Kinds.{abort_at}
-use Rattle.tk_bound.specs.Acceptance.{on_side, more}
+use Rattle.tk_paths.specs.declared.view.Side.{Side}
+use Rattle.tk_paths.specs.declared.view.Side.TheVariants.{ToPause, ToEnd}
+use Rattle.tk_paths.specs.declared.view.View.TheVariants.{On, Value}
+use Rattle.tk_paths.specs.Sums.{plus, greater}
+use Rattle.tk_paths.specs.Kinds.{abort_at}
+use Rattle.tk_paths.specs.Acceptance.{on_side, more}
 use Rattle.tk_paths.specs.Greatest.{stays}
 use Rattle.tk_paths.specs.Numbers.{Numbers, Handler, level, handled, rested, left, cost}
-use Rattle.tk_levels.specs.declared.levels.Levels.{Levels}
-use Rattle.tk_levels.specs.Levels.{numbers_of, levels_to}
-use Rattle.tk_levels.proofs.LevelLaws.{told}
+use Rattle.tk_paths.specs.declared.levels.Levels.{Levels}
+use Rattle.tk_paths.specs.Levels.{numbers_of, levels_to}
+use Rattle.tk_paths.proofs.LevelLaws.{told}
 
 module _ (image : Parts) (costs : List ℕ) where
   pub handled-zero : (side : Side) (aborts : List Handler) → handled image costs side aborts 0 ≡ None

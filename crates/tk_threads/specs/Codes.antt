@@ -3,7 +3,7 @@ use Rattle.std.specs.Prelude.{ℕ, ◌++◌, List, [], ◌∷◌, Option}
 use Rattle.mb_isa.specs.declared.Class.TheVariants as class
 use Rattle.pt_image.specs.declared.Parts.{Parts}
 use Rattle.tk_cert.specs.declared.cert.Line.{Line}
-use Rattle.tk_bound.specs.declared.view.Side.{Side}
+use Rattle.tk_paths.specs.declared.view.Side.{Side}
 use Rattle.tk_paths.specs.Codes.{Code}
 use Rattle.tk_paths.specs.Numbers.{Numbers, Handler, cost, after, rested, grouped, entered, code_lines, code_weights}
 

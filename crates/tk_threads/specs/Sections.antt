@@ -4,7 +4,7 @@ use Rattle.mb_isa.specs.declared.Class.TheVariants as class
 use Rattle.pt_image.specs.declared.Parts.{Parts}
 use Rattle.tk_cert.specs.declared.cert.Line.{Line}
 use Rattle.tk_cert.specs.declared.cert.Line.TheVariants.{Bare}
-use Rattle.tk_bound.specs.declared.view.Side.{Side}
+use Rattle.tk_paths.specs.declared.view.Side.{Side}
 use Rattle.tk_paths.specs.declared.Section.{Section as KeptSection}
 use Rattle.tk_paths.specs.declared.Section.TheVariants as kept
 use Rattle.tk_paths.specs.Regions.{Region, links_in}

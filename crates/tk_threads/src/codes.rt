@@ -5,7 +5,7 @@ ghost use Rattle.tk_paths.specs.Numbers.{entered as the_entered, code_lines as t
 ghost use Rattle.tk_paths.specs.Programs.{pair_from};
 ghost use Rattle.tk_paths.specs.Trees.{read_code};
 ghost use Rattle.tk_numbers.specs.Charges.{IsValued, routines_in};
-ghost use Rattle.tk_levels.specs.Levels.{numbers_of};
+ghost use Rattle.tk_paths.specs.Levels.{numbers_of};
 
 use crate::entrances::entered;
 use crate::exits::{forking, pausing, tested};
@@ -14,8 +14,7 @@ use crate::rests::{Handler, left, with_abort};
 use mb_isa::{Class, Costs};
 use pt_image::Image;
 use std::alloc::Global;
-use tk_levels::{Fault, Levels, Made, Pair, after, copied, nothing};
-use tk_paths::{Code, Section};
+use tk_paths::{Code, Fault, Levels, Made, Pair, Section, after, copied, nothing};
 
 /// Puts the lines and weights of a code of a slot, inside these aborts, in front of those that are made, and gives the numbers where
 /// it begins. `starts` are what the slots from the first on start with.

@@ -5,16 +5,15 @@ ghost use Rattle.tk_paths.specs.Numbers.{entered as the_entered};
 ghost use Rattle.tk_paths.specs.Programs.{pair_from};
 ghost use Rattle.tk_paths.specs.Trees.{read_code};
 ghost use Rattle.tk_numbers.specs.Charges.{IsValued, routines_in};
-ghost use Rattle.tk_levels.specs.Levels.{numbers_of};
+ghost use Rattle.tk_paths.specs.Levels.{numbers_of};
 
 use crate::exits::{back_to, forking, pausing, tested};
 use crate::rests::{Handler, left, with_abort};
 use mb_isa::{Class, Costs};
 use pt_image::Image;
 use std::alloc::Global;
-use tk_levels::{Fault, Levels, Pair, after, copied, nothing};
 use tk_numbers::through;
-use tk_paths::{Code, Section};
+use tk_paths::{Code, Fault, Levels, Pair, Section, after, copied, nothing};
 
 /// The numbers where a code begins inside these aborts, from those behind it.
 #[tactic(auto, using(tk_paths::proofs::Readings::code_reads))]

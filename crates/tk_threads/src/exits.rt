@@ -6,7 +6,7 @@ ghost use Rattle.tk_paths.specs.Numbers.{branched as the_branched, jumping as th
 ghost use Rattle.tk_paths.specs.Programs.{pair_from};
 ghost use Rattle.tk_paths.specs.Trees.{read_code};
 ghost use Rattle.tk_numbers.specs.Charges.{routines_in};
-ghost use Rattle.tk_levels.specs.Levels.{numbers_of};
+ghost use Rattle.tk_paths.specs.Levels.{numbers_of};
 ghost use Rattle.tk_threads.specs.Codes.{pausing, forking};
 
 use crate::rests::{Handler, rested};
@@ -14,9 +14,8 @@ use crate::sums::{all_ends, most_paused};
 use mb_isa::{Class, Costs};
 use pt_image::Image;
 use std::alloc::Global;
-use tk_levels::{Fault, Levels, Pair, added, after, branched, dearer};
 use tk_numbers::{end_of, jumping, testing_cost};
-use tk_paths::{Code, Section};
+use tk_paths::{Code, Fault, Levels, Pair, Section, added, after, branched, dearer};
 
 /// The place behind a code.
 #[tactic(auto, using(tk_paths::proofs::Readings::code_reads))]

@@ -8,16 +8,15 @@ ghost use Rattle.tk_paths.specs.Numbers.{testing as the_testing, test_lines as t
 ghost use Rattle.tk_paths.specs.Numbers.{passing as the_passing, region_weights as the_region_weights};
 ghost use Rattle.tk_paths.specs.Trees.{read_code, read_region};
 ghost use Rattle.tk_numbers.specs.Charges.{IsValued, routines_in};
-ghost use Rattle.tk_levels.specs.Levels.{numbers_of};
+ghost use Rattle.tk_paths.specs.Levels.{numbers_of};
 
 use crate::exits::{exit, testing};
 use crate::rests::{Handler, in_thread};
 use mb_isa::Costs;
 use pt_image::Image;
 use std::alloc::Global;
-use tk_levels::{Fault, Levels, Made, after, branched, line};
 use tk_numbers::{jump_lines, jumping, region_lines, test_lines};
-use tk_paths::{Code, Region, Section};
+use tk_paths::{Code, Fault, Levels, Made, Region, Section, after, branched, line};
 
 /// Puts the line of a place of a slot inside these aborts.
 pub fn put_place(

@@ -1,19 +1,19 @@
 //! What follows a rest inside aborts, and the numbers at the words of aborts.
 
 ghost use Rattle.std.specs.Prelude.{◌≡◌, [], ◌∷◌, ◌++◌, length, if◌then◌else◌, IfOk};
-ghost use Rattle.tk_bound.specs.declared.view.Side.TheVariants.{ToPause, ToEnd};
-ghost use Rattle.tk_bound.specs.Kinds.{abort_at};
-ghost use Rattle.tk_bound.specs.Acceptance.{on_side};
+ghost use Rattle.tk_paths.specs.declared.view.Side.TheVariants.{ToPause, ToEnd};
+ghost use Rattle.tk_paths.specs.Kinds.{abort_at};
+ghost use Rattle.tk_paths.specs.Acceptance.{on_side};
 ghost use Rattle.tk_paths.specs.Numbers.{thread, stack_of};
 ghost use Rattle.tk_paths.specs.Numbers.{handled as the_handled, rested as the_rested, left as the_left, with_abort as the_with_abort};
-ghost use Rattle.tk_levels.specs.Levels.{numbers_of};
-ghost use Rattle.tk_levels.specs.Kinds.{kind_of};
+ghost use Rattle.tk_paths.specs.Levels.{numbers_of};
+ghost use Rattle.tk_paths.specs.PlaceKinds.{kind_of};
 
 use mb_isa::{Class, Costs};
 use pt_base::Many;
 use pt_image::Image;
 use std::alloc::Global;
-use tk_levels::{Fault, Kind, Levels, Pair, greater, level_at, plus};
+use tk_paths::{Fault, Kind, Levels, Pair, greater, level_at, plus};
 
 /// An abort that a place is inside: its number, and the two numbers of its handler, where those outside it are old.
 pub type Handler = (u32, Pair);

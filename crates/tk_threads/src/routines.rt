@@ -9,9 +9,8 @@ ghost use Rattle.tk_threads.specs.Sections.{AreLinks, is_routine, routines_after
 use mb_isa::Costs;
 use pt_image::Image;
 use std::alloc::Global;
-use tk_levels::Fault;
 use tk_numbers::through;
-use tk_paths::{Region, Section};
+use tk_paths::{Fault, Region, Section};
 
 // The links inside a routine, 0 where there is none of its number.
 #[tactic(auto, using(crate::proofs::Before::links_at))]

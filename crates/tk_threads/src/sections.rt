@@ -18,9 +18,8 @@ use pt_base::Many;
 use pt_image::Image;
 use std::alloc::Global;
 use tk_cert::Line;
-use tk_levels::{Fault, Kind, Made, Pair, just};
 use tk_numbers::{put_line, region_lines, units_lines};
-use tk_paths::{Code, Region, Section};
+use tk_paths::{Code, Fault, Kind, Made, Pair, Region, Section, just};
 
 // Puts the lines and weights of a thread's code and its `end` in front.
 #[tactic(auto, using(crate::proofs::Before::and_one))]

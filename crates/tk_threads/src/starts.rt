@@ -5,7 +5,7 @@ ghost use Rattle.tk_paths.specs.Numbers.{level, entered as the_entered};
 ghost use Rattle.tk_paths.specs.Programs.{pair_from, ended as the_ended, starts_from};
 ghost use Rattle.tk_paths.specs.Trees.{read_code, read_sections, threads_in, code_of, codes_of};
 ghost use Rattle.tk_numbers.specs.Charges.{IsValued, routines_in};
-ghost use Rattle.tk_levels.specs.Levels.{numbers_of};
+ghost use Rattle.tk_paths.specs.Levels.{numbers_of};
 ghost use Rattle.tk_threads.specs.Sections.{is_own, is_thread, own_code};
 
 use crate::entrances::entered;
@@ -14,8 +14,7 @@ use mb_isa::{Class, Costs};
 use pt_base::Many;
 use pt_image::Image;
 use std::alloc::Global;
-use tk_levels::{Fault, Levels, Pair, level_at};
-use tk_paths::{Code, Section};
+use tk_paths::{Code, Fault, Levels, Pair, Section, level_at};
 
 // The most slots that an image has.
 const MOST_SLOTS: usize = 64;

@@ -1,11 +1,11 @@
 //! Sums over the children of a fork, of the numbers with which slots start.
 
 ghost use Rattle.std.specs.Prelude.{◌≡◌, ◌≤◌, ◌+◌, ◌-◌, IfOk};
-ghost use Rattle.tk_bound.specs.declared.view.Side.TheVariants.{ToPause, ToEnd};
-ghost use Rattle.tk_bound.specs.Sums.{all_ends as the_all_ends, most_paused as the_most_paused};
+ghost use Rattle.tk_paths.specs.declared.view.Side.TheVariants.{ToPause, ToEnd};
+ghost use Rattle.tk_paths.specs.Sums.{all_ends as the_all_ends, most_paused as the_most_paused};
 ghost use Rattle.tk_paths.specs.Programs.{pair_from};
 
-use tk_levels::{Fault, Pair, greater, plus};
+use tk_paths::{Fault, Pair, greater, plus};
 
 // The numbers with which a slot starts, where these are those of the slots from the first on.
 fn start_of(first: u32, starts: &[Pair], slot: usize) -> Pair

@@ -13,14 +13,14 @@ use Rattle.mb_pfu.proofs.Laws.{is_in-ready}
 use Rattle.mb_pfu.proofs.Sound.{few, tally-spelled}
 use Rattle.mb_pfu.proofs.Trees.{is_in-report}
 use Rattle.pt_image.specs.declared.Parts.{Parts}
-use Rattle.mb_step.specs.Control.{tests_on}
-use Rattle.mb_step.specs.Step.{samples_on}
-use Rattle.mb_step.specs.Tick.{Trapped, tick, run, base_of, begun}
+use Rattle.mb_isa.specs.Control.{tests_on}
+use Rattle.mb_isa.specs.Step.{samples_on}
+use Rattle.mb_isa.specs.Tick.{Trapped, tick, run, base_of, begun}
 use Rattle.mb_pfu.specs.declared.TrapKind.TheVariants.{Late}
-use Rattle.mb_step.specs.Free.{free, IsConfigured, IsConfiguration}
+use Rattle.mb_isa.specs.Free.{free, IsConfigured, IsConfiguration}
 use Rattle.tk_cert.specs.declared.cert.State.{State}
 use Rattle.tk_cert.specs.declared.cert.State.TheVariants.{Start}
-use Rattle.tk_bound.specs.Walks.{state_of, states_of}
+use Rattle.tk_paths.specs.Walks.{state_of, states_of}
 use Rattle.tk_walk.specs.Building.{state_at, put, IsStanding, IsWhole, IsFront, resting, resting_in, IsBuilding, IsRested, IsBuilt, IsSaid, IsBegun}
 use Rattle.tk_walk.proofs.Standings.{put-at, resting-put, rest-loose}
 use Rattle.tk_walk.proofs.Fronts.{meets, front-whole, free-uncounted}

@@ -11,7 +11,7 @@ use Rattle.pt_image.specs.declared.Point.{Point}
 use Rattle.pt_image.specs.declared.Parts.{Parts}
 use Rattle.pt_image.specs.Ranges.{IsPoint}
 use Rattle.pt_image.specs.Listed.{is_point, is_listed, same_numbers}
-use Rattle.mb_step.specs.Free.{numbers_of, IsOfLine, AreOfLines}
+use Rattle.mb_isa.specs.Free.{numbers_of, IsOfLine, AreOfLines}
 use Rattle.tk_walk.specs.Listing.{IsTable, IsFound}
 use Rattle.tk_walk.specs.Building.{line_at, entries}
 use Rattle.tk_walk.proofs.Listings.{listed_found, at_point}

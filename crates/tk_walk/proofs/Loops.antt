@@ -7,7 +7,7 @@ use Rattle.mb_pfu.specs.Unit.{fresh}
 use Rattle.pt_image.specs.declared.Parts.{Parts}
 use Rattle.tk_cert.specs.declared.cert.State.{State}
 use Rattle.tk_cert.specs.declared.cert.State.TheVariants.{Free}
-use Rattle.tk_bound.specs.Walks.{state_of, states_of}
+use Rattle.tk_paths.specs.Walks.{state_of, states_of}
 use Rattle.tk_walk.specs.Building.{state_at, is_loose, any_loose, line_at, entries}
 use Rattle.tk_walk.proofs.Targets.{state-said}
 

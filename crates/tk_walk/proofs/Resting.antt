@@ -17,7 +17,7 @@ use Rattle.mb_pfu.proofs.Keeps.{enter-states}
 use Rattle.pt_image.specs.declared.Point.{Point}
 use Rattle.pt_image.specs.declared.Parts.{Parts}
 use Rattle.pt_image.specs.Listed.{is_listed}
-use Rattle.mb_step.specs.Free.{numbers_of, AreOfLines}
+use Rattle.mb_isa.specs.Free.{numbers_of, AreOfLines}
 use Rattle.tk_cert.specs.declared.cert.State.{State}
 use Rattle.tk_cert.specs.declared.cert.State.TheVariants.{Paused, Waiting, Ended}
 use Rattle.tk_walk.specs.Listing.{IsTable, IsFound}

@@ -3,11 +3,11 @@ use Rattle.std.proofs.Common.{◌≡◌, ◌≤◌, ℕ, zero, suc, ◌+◌, Boo
 use Rattle.mb_pfu.specs.Tree.{next_test}
 use Rattle.mb_pfu.specs.Unit.{State}
 use Rattle.pt_image.specs.declared.Parts.{Parts}
-use Rattle.mb_step.specs.Control as control
-use Rattle.mb_step.specs.Control.{Control, place_of}
-use Rattle.mb_step.specs.Step.{Stepped, Traps, Undecided, samples_from, samples_on, step}
-use Rattle.mb_step.specs.Tick.{after_step, run}
-use Rattle.mb_step.specs.Free.{free}
+use Rattle.mb_isa.specs.Control as control
+use Rattle.mb_isa.specs.Control.{Control, place_of}
+use Rattle.mb_isa.specs.Step.{Stepped, Traps, Undecided, samples_from, samples_on, step}
+use Rattle.mb_isa.specs.Tick.{after_step, run}
+use Rattle.mb_isa.specs.Free.{free}
 use Rattle.tk_walk.specs.declared.parts.Phase.{Phase}
 use Rattle.tk_walk.specs.declared.parts.Phase.TheVariants.{Testing, Running, Resting}
 use Rattle.tk_walk.specs.declared.parts.Stop.{Stop}

@@ -2,9 +2,9 @@
 use Rattle.std.proofs.Common.{◌≡◌, ◌≤◌, ℕ, zero, suc, Bool, IsTrue, List, [], ◌∷◌, length, drop, Option, Some, None, refl, sym, ap, ◌∙◌, subst, arith, leb, leb-true, le-leb, length-drop}
 use Rattle.mb_pfu.specs.Unit as unit
 use Rattle.pt_image.specs.declared.Parts.{Parts}
-use Rattle.mb_step.specs.Tick.{Outcome, Ends, tick}
-use Rattle.mb_step.specs.Free.{free}
-use Rattle.tk_bound.specs.Walks.{most_cycles, IsCostOf}
+use Rattle.mb_isa.specs.Tick.{Outcome, Ends, tick}
+use Rattle.mb_isa.specs.Free.{free}
+use Rattle.tk_paths.specs.Walks.{most_cycles, IsCostOf}
 use Rattle.tk_walk.specs.Walks.{IsTickCost, IsCostWithin, Tells, TellsWithin}
 use Rattle.tk_walk.specs.Building.{IsBegun}
 use Rattle.tk_walk.specs.Going.{FreeState, left}

@@ -10,7 +10,7 @@ use Rattle.mb_pfu.proofs.Climbs.{size-at_member}
 use Rattle.mb_pfu.proofs.Laws.{at-at}
 use Rattle.mb_pfu.proofs.Trees.{is_in-report, is_among-report, some-ready}
 use Rattle.pt_image.specs.declared.Parts.{Parts}
-use Rattle.mb_step.specs.Free.{IsLoose, AreAtRest, HasLoose}
+use Rattle.mb_isa.specs.Free.{IsLoose, AreAtRest, HasLoose}
 use Rattle.tk_cert.specs.declared.cert.State.{State}
 use Rattle.tk_walk.specs.Building.{state_at, is_loose, any_loose, all_entered, put, IsFork, IsStanding, AreStanding, resting, resting_in}
 

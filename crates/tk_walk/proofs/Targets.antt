@@ -10,10 +10,10 @@ use Rattle.mb_pfu.specs.Unit as unit
 use Rattle.mb_pfu.proofs.Cases.{or_else-some}
 use Rattle.mb_pfu.proofs.Firsts.{uncounted}
 use Rattle.pt_image.specs.declared.Parts.{Parts}
-use Rattle.mb_step.specs.Free.{IsLoose, AreAtRest, HasLoose, IsConfigured}
+use Rattle.mb_isa.specs.Free.{IsLoose, AreAtRest, HasLoose, IsConfigured}
 use Rattle.tk_cert.specs.declared.cert.State.{State}
 use Rattle.tk_cert.specs.declared.cert.State.TheVariants.{Start, Waiting, Ended}
-use Rattle.tk_bound.specs.Walks.{state_of, states_of}
+use Rattle.tk_paths.specs.Walks.{state_of, states_of}
 use Rattle.tk_walk.specs.Building.{state_at, is_loose, any_loose, IsTarget, AreTargets, IsWhole, IsSaid}
 use Rattle.tk_walk.proofs.Standings.{any-more}
 use Rattle.tk_walk.proofs.Fronts.{self, counted, below-by}

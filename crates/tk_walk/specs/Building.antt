@@ -10,11 +10,11 @@ use Rattle.mb_pfu.specs.Unit.{fresh}
 use Rattle.pt_image.specs.declared.AbortLine.{AbortLine}
 use Rattle.pt_image.specs.declared.Parts.{Parts}
 use Rattle.pt_image.specs.Listed.{is_listed}
-use Rattle.mb_step.specs.Free.{numbers_of, AreOfLines, IsConfiguration}
-use Rattle.mb_step.specs.Tick.{begun}
+use Rattle.mb_isa.specs.Free.{numbers_of, AreOfLines, IsConfiguration}
+use Rattle.mb_isa.specs.Tick.{begun}
 use Rattle.tk_cert.specs.declared.cert.State.{State}
 use Rattle.tk_cert.specs.declared.cert.State.TheVariants.{Free, Start, Paused, Waiting, Ended}
-use Rattle.tk_bound.specs.Walks.{states_of}
+use Rattle.tk_paths.specs.Walks.{states_of}
 
 -- what a walk says of a slot; one of which it says nothing is free
 abbrev pub state_at : List State → ℕ → State

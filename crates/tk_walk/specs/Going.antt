@@ -5,10 +5,10 @@ use Rattle.pt_image.specs.declared.Parts.{Parts}
 use Rattle.mb_pfu.specs.Rows.{is_ready}
 use Rattle.mb_pfu.specs.Tree.{slot_of}
 use Rattle.mb_pfu.specs.Unit.{State}
-use Rattle.mb_step.specs.Control.{Control, Who, Turn, Condition, goes, turns_on, tests_on, answered}
-use Rattle.mb_step.specs.Words.{Plan, Work, Branch, branched, plan_of, plan_decoded, plan_word}
-use Rattle.mb_step.specs.Step.{Stepped, Moves, Traps, Undecided, stepped, led as taken_to}
-use Rattle.mb_step.specs.Free.{free}
+use Rattle.mb_isa.specs.Control.{Control, Who, Turn, Condition, goes, turns_on, tests_on, answered}
+use Rattle.mb_isa.specs.Words.{Plan, Work, Branch, branched, plan_of, plan_decoded, plan_word}
+use Rattle.mb_isa.specs.Step.{Stepped, Moves, Traps, Undecided, stepped, led as taken_to}
+use Rattle.mb_isa.specs.Free.{free}
 use Rattle.tk_walk.specs.declared.parts.To.{To}
 use Rattle.tk_walk.specs.declared.parts.To.TheVariants.{On, Rest, Conclude}
 use Rattle.tk_walk.specs.declared.parts.Went.{Went}

@@ -3,12 +3,12 @@ use Rattle.std.specs.Prelude.{◌≡◌, ℕ, suc, Bool, IsTrue, is_some, List, 
 use Rattle.mb_pfu.specs.Rows.{is_ready}
 use Rattle.mb_pfu.specs.Tree.{slot_of, next_test}
 use Rattle.mb_pfu.specs.Unit.{State}
-use Rattle.mb_step.specs.Control as control
-use Rattle.mb_step.specs.Control.{Control}
+use Rattle.mb_isa.specs.Control as control
+use Rattle.mb_isa.specs.Control.{Control}
 use Rattle.pt_image.specs.declared.Parts.{Parts}
-use Rattle.mb_step.specs.Step.{Stepped, Moves, step}
-use Rattle.mb_step.specs.Tick.{Outcome, Ends, Trapped, Open, run, tick}
-use Rattle.mb_step.specs.Free.{free}
+use Rattle.mb_isa.specs.Step.{Stepped, Moves, step}
+use Rattle.mb_isa.specs.Tick.{Outcome, Ends, Trapped, Open, run, tick}
+use Rattle.mb_isa.specs.Free.{free}
 use Rattle.tk_walk.specs.declared.parts.Phase.{Phase}
 use Rattle.tk_walk.specs.declared.parts.Phase.TheVariants.{Testing, Running, Resting}
 use Rattle.tk_walk.specs.declared.parts.Moved.{Moved}

@@ -2,9 +2,9 @@
 use Rattle.std.specs.Prelude.{◌≡◌, ℕ, ◌≤◌, Bool, List, [], Option, Some, None}
 use Rattle.mb_pfu.specs.Unit.{State}
 use Rattle.pt_image.specs.declared.Parts.{Parts}
-use Rattle.mb_step.specs.Free.{free, IsConfiguration}
-use Rattle.mb_step.specs.Tick.{Ends, tick}
-use Rattle.tk_bound.specs.Walks.{states_of, IsCostOf}
+use Rattle.mb_isa.specs.Free.{free, IsConfiguration}
+use Rattle.mb_isa.specs.Tick.{Ends, tick}
+use Rattle.tk_paths.specs.Walks.{states_of, IsCostOf}
 use Rattle.tk_cert.specs.declared.cert.Walk.{Walk}
 
 -- an answer gives the cost of a walk, or says that no number is its cost

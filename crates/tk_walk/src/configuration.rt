@@ -5,7 +5,7 @@ ghost use Rattle.mb_pfu.specs.Rows.{is_ready};
 ghost use Rattle.mb_pfu.specs.Tree.{slot_of, watches_of};
 ghost use Rattle.mb_pfu.specs.Unit.{is_nested};
 ghost use Rattle.tk_walk.specs.Listing.{AreListings};
-ghost use Rattle.tk_bound.specs.Walks.{state_of, states_of};
+ghost use Rattle.tk_paths.specs.Walks.{state_of, states_of};
 ghost use Rattle.tk_walk.specs.Building.{state_at, is_loose, any_loose, entries, all_entered, IsForkAt, IsBuilding, IsRested, IsBuilt, IsBegun};
 
 use crate::listing::Listing;

@@ -1,5 +1,5 @@
 ghost use Rattle.std.specs.Prelude.{◌≡◌, ℕ, Some};
-ghost use Rattle.tk_bound.specs.Walks.{IsCostOf};
+ghost use Rattle.tk_paths.specs.Walks.{IsCostOf};
 ghost use Rattle.tk_walk.specs.Listing.{AreListings};
 ghost use Rattle.tk_walk.specs.Walks.{Tells, TellsWithin, IsCostWithin, IsTickCost};
 

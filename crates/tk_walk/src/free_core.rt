@@ -1,9 +1,9 @@
 ghost use Rattle.std.specs.Prelude.{◌≡◌, ◌≤◌, ◌<◌, ◌+◌, ◌^◌, ℕ, Option, IsTrue, is_some, Some, None, Ok, length, drop, option_map};
 ghost use Rattle.mb_pfu.specs.Tree.{next_test};
 ghost use Rattle.mb_isa.specs.declared.Instr.TheVariants as words;
-ghost use Rattle.mb_step.specs.Control.{wakes, answered};
-ghost use Rattle.mb_step.specs.Free.{chosen};
-ghost use Rattle.mb_step.specs.Tick.{begun};
+ghost use Rattle.mb_isa.specs.Control.{wakes, answered};
+ghost use Rattle.mb_isa.specs.Free.{chosen};
+ghost use Rattle.mb_isa.specs.Tick.{begun};
 ghost use Rattle.tk_walk.specs.Going.{left, chose, IsSpent, work_at, branch_at, branched_at, decoded_at, plan_there};
 ghost use Rattle.tk_walk.specs.Going.{IsStep, IsWord, IsLed, IsTarget, IsTurn, Keeps};
 ghost use Rattle.tk_walk.specs.Listing.{AreListings};

@@ -1,7 +1,7 @@
 ghost use Rattle.std.specs.Prelude.{◌≡◌, ◌≤◌, IfSome, IsTrue, is_some, length, None, Some, Ok};
 ghost use Rattle.mb_isa.specs.Costs.{IsCosts};
 ghost use Rattle.mb_pfu.specs.Tree.{next_test};
-ghost use Rattle.mb_step.specs.Control.{turns_on, tests_on};
+ghost use Rattle.mb_isa.specs.Control.{turns_on, tests_on};
 ghost use Rattle.tk_walk.specs.Going.{KeepsTurn};
 ghost use Rattle.tk_walk.specs.Listing.{AreListings};
 ghost use Rattle.tk_walk.specs.Phases.{place_in, control_of, IsPhase, IsMoved, IsAdvance, IsAfter, IsRun, IsTick};

@@ -2,18 +2,18 @@
 
 ghost use Rattle.std.specs.Prelude.{◌≡◌, ◌<◌, ◌+◌, ◌^◌, Some};
 ghost use Rattle.mb_isa.specs.declared.Instr.TheVariants as words;
-ghost use Rattle.mb_words.specs.Came.{came, IsStillReady};
+ghost use Rattle.mb_isa.specs.Came.{came, IsStillReady};
 ghost use Rattle.tk_walk.specs.Going.{IsStep, IsWord, IsTurn, Keeps};
 ghost use Rattle.tk_walk.specs.Listing.{AreListings};
 
 use crate::free_core::FreeCore;
 use crate::listing::Listing;
 use crate::parts::{Stop, To, Went};
-use mb_isa::{Class, Costs, turns};
-use mb_pfu::TrapKind;
-use mb_words::{
-    abrt, call, drop_word, end, eot, fork_word, leave_word, loop_word, next, ret, stack_of,
+use mb_isa::{
+    Class, Costs, abrt, call, drop_word, end, eot, fork_word, leave_word, loop_word, next, ret,
+    stack_of, turns,
 };
+use mb_pfu::TrapKind;
 use pt_image::Image;
 
 impl FreeCore {

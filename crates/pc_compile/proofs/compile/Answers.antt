@@ -1,6 +1,6 @@
 use Rattle.std.proofs.Common.{◌-◌, sym, subst}
-use Rattle.pc_ir.specs.Trees.{flow_read}
-use Rattle.pc_region.specs.Laid.{Placing}
+use Rattle.pc_lower.specs.Trees.{flow_read}
+use Rattle.pc_lower.specs.Laid.{Placing}
 use Rattle.pc_regs.specs.Placement.{memory_words, IsPlacement}
 use Rattle.pc_regs.specs.Words.{writing_of}
 use Rattle.pc_regs.specs.Writings.{FlowWritten}

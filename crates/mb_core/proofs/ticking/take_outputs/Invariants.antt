@@ -1,5 +1,5 @@
 use Rattle.std.proofs.Common.{◌≡◌, take, map}
-use Rattle.mb_step.specs.Cells.{word_at}
+use Rattle.mb_isa.specs.Cells.{word_at}
 use Rattle.mb_core.proofs.ticking.take_outputs.Given as goal
 
 abbrev pub invariant-loop-i : goal.invariant-loop-i

@@ -1,7 +1,7 @@
 use Rattle.std.proofs.Common.{◌≡◌, Bool, IsTrue, drop}
 use Rattle.std.specs.List.{AllByRecursion}
-use Rattle.pc_ir.specs.declared.nodes.Test.{Test}
-use Rattle.pc_ir.specs.Trees.{pairs_of}
+use Rattle.pc_lower.specs.declared.nodes.Test.{Test}
+use Rattle.pc_lower.specs.Trees.{pairs_of}
 use Rattle.pc_regs.specs.Words.{is_test_written, writing_of}
 use Rattle.pc_emit.specs.Part.{joined, just}
 use Rattle.pc_emit.specs.Image.{conditions_words}

@@ -1,6 +1,6 @@
 use Rattle.std.proofs.Common.{◌≡◌, ◌++◌, drop, map}
 use Rattle.std.specs.List.{AllByRecursion}
-use Rattle.pc_ir.specs.Trees.{read}
+use Rattle.pc_lower.specs.Trees.{read}
 use Rattle.pc_regs.specs.Words.{writing_of}
 use Rattle.pc_emit.specs.Image.{entrances_from}
 use Rattle.pc_regs.specs.Writings.{NodeWritten}

@@ -1,6 +1,6 @@
 use Rattle.std.proofs.Common.{sym, subst, ◌-◌}
 use Rattle.pt_image.specs.Ranges.{IsImage}
-use Rattle.pc_ir.specs.Trees.{flow_read}
+use Rattle.pc_lower.specs.Trees.{flow_read}
 use Rattle.pc_regs.specs.Placement.{memory_words}
 use Rattle.pc_regs.specs.Words.{writing_of}
 use Rattle.pc_emit.proofs.Numbered.{slots}

@@ -4,9 +4,9 @@ use Rattle.mb_isa.specs.Codes.{code_of}
 use Rattle.pt_image.specs.declared.image.AbortLine.{AbortLine}
 use Rattle.pt_image.specs.declared.image.Point.{Point}
 use Rattle.pt_image.specs.declared.image.Parts.{Parts}
-use Rattle.pc_ir.specs.declared.nodes.Node.{Node}
-use Rattle.pc_ir.specs.Trees.{read, pairs_of, flow_read}
-use Rattle.pc_region.specs.Numbering.{generations, slots_of}
+use Rattle.pc_lower.specs.declared.nodes.Node.{Node}
+use Rattle.pc_lower.specs.Trees.{read, pairs_of, flow_read}
+use Rattle.pc_lower.specs.Numbering.{generations, slots_of}
 use Rattle.std.proofs.lemmas.List.{length-map}
 use Rattle.pc_regs.specs.Placement.{memory_words}
 use Rattle.pc_regs.specs.Words.{writing_of}

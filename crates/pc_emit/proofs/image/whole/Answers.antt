@@ -1,7 +1,7 @@
 use Rattle.std.proofs.Common.{◌≡◌, ◌+◌, ℕ, List, [], length, ap, ◌∙◌, arith, length-append}
-use Rattle.pc_ir.specs.declared.nodes.Abort.{Abort}
-use Rattle.pc_ir.specs.Trees.{pairs_of, flow_read}
-use Rattle.pc_region.specs.Numbering.{first_started}
+use Rattle.pc_lower.specs.declared.nodes.Abort.{Abort}
+use Rattle.pc_lower.specs.Trees.{pairs_of, flow_read}
+use Rattle.pc_lower.specs.Numbering.{first_started}
 use Rattle.pc_regs.specs.Words.{writing_of}
 use Rattle.pc_emit.specs.Part.{Part, joined, just}
 use Rattle.pc_emit.specs.Image.{functions_size, functions_code, conditions_words, entrances_of}

@@ -3,7 +3,7 @@ use Rattle.std.specs.List.{AllByRecursion}
 use Rattle.std.proofs.lemmas.List.{length-map}
 use Rattle.std.proofs.lemmas.List.Elements.{All-cons, All-nil}
 use Rattle.mb_isa.specs.Costs.{IsCosts, unit}
-use Rattle.pc_region.specs.Numbering.{slots_of}
+use Rattle.pc_lower.specs.Numbering.{slots_of}
 use Rattle.pc_emit.specs.Image.{image_of}
 use Rattle.pc_emit.proofs.Whole.{image_holds}
 use Rattle.pc_emit.proofs.Eots.{lists_all}

@@ -1,10 +1,10 @@
 use Rattle.std.proofs.Common.{◌≡◌, ◌+◌, List, [], length, drop, sym, ap, subst, ◌∙◌, arith, length-append}
 use Rattle.std.proofs.lemmas.List.{drop_all}
-use Rattle.pc_ir.specs.declared.nodes.Node.{Node}
-use Rattle.pc_ir.specs.Flow.{Node as Tree, sequence}
-use Rattle.pc_ir.proofs.Trees.{read-Sequence}
-use Rattle.pc_ir.specs.Trees.{read, all_read}
-use Rattle.pc_region.specs.Limits.{threads_of, threads_of_all}
+use Rattle.pc_lower.specs.declared.nodes.Node.{Node}
+use Rattle.pc_lower.specs.Flow.{Node as Tree, sequence}
+use Rattle.pc_lower.proofs.FlowTrees.{read-Sequence}
+use Rattle.pc_lower.specs.Trees.{read, all_read}
+use Rattle.pc_lower.specs.Limits.{threads_of, threads_of_all}
 use Rattle.pc_regs.specs.Words.{writing_of}
 use Rattle.pc_emit.specs.Part.{joined}
 use Rattle.pc_emit.specs.Code.{code, codes}

@@ -1,9 +1,9 @@
 use Rattle.std.proofs.Common.{◌≡◌, ◌++◌, List, [], drop, append-nil, ap, sym, ◌∙◌}
 use Rattle.std.proofs.lemmas.List.{drop_all}
-use Rattle.pc_ir.specs.declared.nodes.Node.{Node}
-use Rattle.pc_ir.specs.Flow.{Node as Tree, sequence}
-use Rattle.pc_ir.specs.Trees.{read, all_read}
-use Rattle.pc_ir.proofs.Trees.{read-Sequence}
+use Rattle.pc_lower.specs.declared.nodes.Node.{Node}
+use Rattle.pc_lower.specs.Flow.{Node as Tree, sequence}
+use Rattle.pc_lower.specs.Trees.{read, all_read}
+use Rattle.pc_lower.proofs.FlowTrees.{read-Sequence}
 use Rattle.tk_paths.specs.declared.trees.Region.{Region}
 use Rattle.tk_paths.specs.declared.trees.Region.TheVariants as region
 use Rattle.pc_regs.specs.Words.{writing_of}

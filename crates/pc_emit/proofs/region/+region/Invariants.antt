@@ -1,5 +1,5 @@
 use Rattle.std.proofs.Common.{◌≡◌, ◌++◌, drop}
-use Rattle.pc_ir.specs.Trees.{all_read}
+use Rattle.pc_lower.specs.Trees.{all_read}
 use Rattle.pc_regs.specs.Words.{writing_of}
 use Rattle.pc_regs.specs.Writings.{NodesWritten}
 use Rattle.pc_emit.specs.Made.{behind, made_regions}

@@ -1,9 +1,9 @@
 use Rattle.std.proofs.Common.{◌≡◌, ◌++◌, ℕ, List, [], ◌∷◌, length, map, sym, ap, ◌∙◌}
 use Rattle.std.proofs.lemmas.List.{length-map}
-use Rattle.pc_ir.specs.declared.nodes.Node.{Node}
-use Rattle.pc_ir.specs.declared.nodes.Abort.{Abort}
-use Rattle.pc_ir.specs.Trees.{read, pairs_of, flow_read}
-use Rattle.pc_region.specs.Numbering.{generations, slots_of, first_started}
+use Rattle.pc_lower.specs.declared.nodes.Node.{Node}
+use Rattle.pc_lower.specs.declared.nodes.Abort.{Abort}
+use Rattle.pc_lower.specs.Trees.{read, pairs_of, flow_read}
+use Rattle.pc_lower.specs.Numbering.{generations, slots_of, first_started}
 use Rattle.tk_paths.specs.declared.trees.Section.{Section}
 use Rattle.tk_paths.specs.Trees.{read_sections, program_of_sections}
 use Rattle.pc_regs.specs.Words.{writing_of}

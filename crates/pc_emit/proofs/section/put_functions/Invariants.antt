@@ -1,7 +1,7 @@
 use Rattle.std.proofs.Common.{◌≡◌, ◌+◌, ◌++◌, drop, map}
 use Rattle.std.specs.List.{AllByRecursion}
-use Rattle.pc_ir.specs.Trees.{read, flow_read}
-use Rattle.pc_region.specs.Numbering.{first_started}
+use Rattle.pc_lower.specs.Trees.{read, flow_read}
+use Rattle.pc_lower.specs.Numbering.{first_started}
 use Rattle.pc_regs.specs.Words.{writing_of}
 use Rattle.pc_regs.specs.Writings.{NodeWritten}
 use Rattle.pc_emit.specs.Image.{functions_size}

@@ -1,8 +1,8 @@
 use Rattle.std.proofs.Common.{◌≡◌, ◌+◌, [], drop, ap, sym, ◌∙◌, arith}
 use Rattle.std.proofs.lemmas.List.{drop_all}
-use Rattle.pc_ir.specs.Flow.{sequence}
-use Rattle.pc_ir.specs.Trees.{read, all_read}
-use Rattle.pc_ir.proofs.Trees.{read-Sequence}
+use Rattle.pc_lower.specs.Flow.{sequence}
+use Rattle.pc_lower.specs.Trees.{read, all_read}
+use Rattle.pc_lower.proofs.FlowTrees.{read-Sequence}
 use Rattle.pc_regs.specs.Words.{writing_of}
 use Rattle.pc_emit.specs.Code.{size, sizes}
 use Rattle.pc_emit.proofs.sizes.+size.Goals as goal

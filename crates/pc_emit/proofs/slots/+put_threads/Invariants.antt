@@ -1,6 +1,6 @@
 use Rattle.std.proofs.Common.{◌≡◌, ◌++◌, drop}
-use Rattle.pc_ir.specs.Trees.{all_read}
-use Rattle.pc_region.specs.Limits.{threads_of_all}
+use Rattle.pc_lower.specs.Trees.{all_read}
+use Rattle.pc_lower.specs.Limits.{threads_of_all}
 use Rattle.pc_emit.proofs.slots.+put_threads.Given as goal
 
 abbrev pub invariant-put_all_threads-loop-node : goal.invariant-put_all_threads-loop-node

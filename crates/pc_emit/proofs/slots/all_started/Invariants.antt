@@ -1,6 +1,6 @@
 use Rattle.std.proofs.Common.{◌≡◌, ◌++◌, drop, map}
-use Rattle.pc_ir.specs.Trees.{read}
-use Rattle.pc_region.specs.Numbering.{all_started}
+use Rattle.pc_lower.specs.Trees.{read}
+use Rattle.pc_lower.specs.Numbering.{all_started}
 use Rattle.pc_emit.proofs.slots.all_started.Given as goal
 
 abbrev pub invariant-loop-function : goal.invariant-loop-function

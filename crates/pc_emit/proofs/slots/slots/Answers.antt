@@ -1,6 +1,6 @@
 use Rattle.std.proofs.Common.{◌≡◌, suc, ◌+◌, ◌-◌, ◌++◌, length, map, sym, ap, ◌∙◌, append_assoc, arith}
-use Rattle.pc_ir.specs.Trees.{read}
-use Rattle.pc_region.specs.Numbering.{all_started, generations}
+use Rattle.pc_lower.specs.Trees.{read}
+use Rattle.pc_lower.specs.Numbering.{all_started, generations}
 use Rattle.pc_emit.proofs.slots.slots.Goals as goal
 
 pub loop-turn-preserved : goal.loop-turn-preserved

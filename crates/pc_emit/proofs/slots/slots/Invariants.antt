@@ -1,6 +1,6 @@
 use Rattle.std.proofs.Common.{◌≡◌, ◌-◌, [], ◌∷◌, ◌++◌, length, map}
-use Rattle.pc_ir.specs.Trees.{read}
-use Rattle.pc_region.specs.Numbering.{generations}
+use Rattle.pc_lower.specs.Trees.{read}
+use Rattle.pc_lower.specs.Numbering.{generations}
 use Rattle.pc_emit.proofs.slots.slots.Given as goal
 
 abbrev pub invariant-loop-turn : goal.invariant-loop-turn

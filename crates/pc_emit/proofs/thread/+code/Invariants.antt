@@ -1,6 +1,6 @@
 use Rattle.std.proofs.Common.{◌≡◌, ◌+◌, ◌++◌, length, drop}
-use Rattle.pc_ir.specs.Trees.{all_read}
-use Rattle.pc_region.specs.Limits.{threads_of_all}
+use Rattle.pc_lower.specs.Trees.{all_read}
+use Rattle.pc_lower.specs.Limits.{threads_of_all}
 use Rattle.pc_regs.specs.Words.{writing_of}
 use Rattle.pc_regs.specs.Writings.{NodesWritten}
 use Rattle.pc_emit.specs.Made.{behind, made_codes}

@@ -1,5 +1,5 @@
 use Rattle.std.proofs.Common.{◌≡◌, ◌++◌, drop}
-use Rattle.pc_ir.specs.Trees.{all_read}
+use Rattle.pc_lower.specs.Trees.{all_read}
 use Rattle.pc_emit.specs.Sections.{calls_in_all}
 use Rattle.pc_emit.proofs.used.+put_calls.Given as goal
 

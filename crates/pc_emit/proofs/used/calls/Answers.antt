@@ -1,8 +1,8 @@
 use Rattle.std.proofs.Common.{◌≡◌, ◌+◌, ◌-◌, false, List, ◌∷◌, map, drop, get_or, reverse, sym, ap, subst, ◌∙◌, arith}
 use Rattle.std.proofs.lemmas.List.{drop_more}
-use Rattle.pc_ir.specs.declared.nodes.Node.{Node}
-use Rattle.pc_ir.specs.declared.nodes.Node.TheVariants.{Pause}
-use Rattle.pc_ir.specs.Trees.{read}
+use Rattle.pc_lower.specs.declared.nodes.Node.{Node}
+use Rattle.pc_lower.specs.declared.nodes.Node.TheVariants.{Pause}
+use Rattle.pc_lower.specs.Trees.{read}
 use Rattle.pc_emit.specs.Image.{slot_of}
 use Rattle.pc_emit.specs.Sections.{is_among, is_used}
 use Rattle.pc_emit.specs.Made.{calls_from}

@@ -1,5 +1,5 @@
 use Rattle.std.proofs.Common.{◌≡◌, ◌≤◌, ℕ, length, map, drop, reverse}
-use Rattle.pc_ir.specs.Trees.{read}
+use Rattle.pc_lower.specs.Trees.{read}
 use Rattle.pc_emit.specs.Sections.{is_among, used_calls}
 use Rattle.pc_emit.specs.Made.{calls_from}
 use Rattle.pc_emit.proofs.used.calls.Given as goal

@@ -1,12 +1,12 @@
 use Rattle.std.proofs.Common.{◌≡◌, ◌+◌, Bool, List, [], ◌∷◌, ◌++◌, drop, sym, ap, ◌∙◌, subst}
 use Rattle.std.specs.Prelude.{OnOk}
-use Rattle.pc_ast.specs.declared.statements.Stmt.TheVariants.{If}
+use Rattle.pc_grammar.specs.declared.statements.Stmt.TheVariants.{If}
 use Rattle.pc_meaning.specs.Programs.{numbering_of, expression_of}
 use Rattle.pc_meaning.specs.Lefts.{tree, trees}
 use Rattle.pc_meaning.proofs.Leaving.{drop-at}
 use Rattle.pc_meaning.proofs.Trees.{statement-If_else, statement-Abort}
-use Rattle.pc_ir.specs.declared.nodes.Test.{Test}
-use Rattle.pc_ir.specs.Trees.{pairs_of}
+use Rattle.pc_lower.specs.declared.nodes.Test.{Test}
+use Rattle.pc_lower.specs.Trees.{pairs_of}
 use Rattle.pc_lower.specs.Aborts.{aborts_in, aborts_in_all}
 use Rattle.pc_lower.specs.Lowered.{test_of, conditions_of}
 use Rattle.pc_lower.proofs.Trees.{aborts-then, pairs-push}

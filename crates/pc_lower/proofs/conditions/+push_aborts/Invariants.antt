@@ -1,6 +1,6 @@
 use Rattle.std.proofs.Common.{◌≡◌, ◌++◌, drop}
 use Rattle.pc_meaning.specs.Lefts.{trees}
-use Rattle.pc_ir.specs.Trees.{pairs_of}
+use Rattle.pc_lower.specs.Trees.{pairs_of}
 use Rattle.pc_lower.specs.Aborts.{aborts_in_all}
 use Rattle.pc_lower.specs.Lowered.{conditions_of}
 use Rattle.pc_lower.proofs.conditions.+push_aborts.Given as goal

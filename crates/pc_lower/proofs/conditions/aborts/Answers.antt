@@ -2,7 +2,7 @@ use Rattle.std.proofs.Common.{◌+◌, ◌++◌, map, drop, sym, ap, ◌∙◌}
 use Rattle.pc_meaning.specs.Programs.{routine_of, numbering_of}
 use Rattle.pc_meaning.specs.Lefts.{trees}
 use Rattle.pc_meaning.proofs.Leaving.{drop-at}
-use Rattle.pc_ir.specs.Trees.{pairs_of}
+use Rattle.pc_lower.specs.Trees.{pairs_of}
 use Rattle.pc_lower.specs.Aborts.{aborts_in_all, aborts_of}
 use Rattle.pc_lower.specs.Lowered.{conditions_of}
 use Rattle.pc_lower.proofs.Trees.{aborts-then}

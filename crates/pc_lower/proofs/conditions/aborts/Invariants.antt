@@ -1,6 +1,6 @@
 use Rattle.std.proofs.Common.{◌≡◌, ◌++◌, drop, map}
 use Rattle.pc_meaning.specs.Programs.{routine_of, numbering_of}
-use Rattle.pc_ir.specs.Trees.{pairs_of}
+use Rattle.pc_lower.specs.Trees.{pairs_of}
 use Rattle.pc_lower.specs.Aborts.{aborts_of}
 use Rattle.pc_lower.specs.Lowered.{conditions_of}
 use Rattle.pc_lower.proofs.conditions.aborts.Given as goal

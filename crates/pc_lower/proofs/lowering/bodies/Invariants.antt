@@ -1,7 +1,7 @@
 use Rattle.std.proofs.Common.{◌≡◌, ◌++◌, drop, map}
 use Rattle.pc_meaning.specs.Programs.{routine_of, numbering_of}
 use Rattle.pc_meaning.specs.Lefts.{routines_of}
-use Rattle.pc_ir.specs.Trees.{read}
+use Rattle.pc_lower.specs.Trees.{read}
 use Rattle.pc_lower.specs.Lowered.{bodies_of}
 use Rattle.pc_lower.proofs.lowering.bodies.Given as goal
 

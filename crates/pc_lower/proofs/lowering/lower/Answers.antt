@@ -1,7 +1,7 @@
 use Rattle.std.proofs.Common.{◌≡◌, ◌∙◌}
 use Rattle.pc_meaning.specs.Programs.{program_of}
-use Rattle.pc_ir.specs.declared.flow.Flow.{Flow as Kept}
-use Rattle.pc_ir.specs.Trees.{flow_read}
+use Rattle.pc_lower.specs.declared.flow.Flow.{Flow as Kept}
+use Rattle.pc_lower.specs.Trees.{flow_read}
 use Rattle.pc_lower.specs.Lowered.{flow_of}
 use Rattle.pc_lower.proofs.Lowers.{flow_is, correct, few, within_weight, within_passages}
 use Rattle.pc_lower.proofs.lowering.lower.Goals as goal

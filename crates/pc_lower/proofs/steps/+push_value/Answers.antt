@@ -2,8 +2,8 @@ use Rattle.std.proofs.Common.{rules, ◌<◌, ◌^◌, [], ◌∷◌, ◌++◌, 
 use Rattle.pc_meaning.specs.Programs.{expression_of}
 use Rattle.pc_meaning.proofs.Trees.{expression-Number, expression-Elem, expression-Unary}
 use Rattle.pc_meaning.proofs.Rolled.{literal}
-use Rattle.pc_ir.specs.declared.nodes.Place.TheVariants.{Temp as temp}
-use Rattle.pc_ir.specs.declared.nodes.Step.TheVariants.{Const as const, Unary as unary_step, TakeElement as take_element}
+use Rattle.pc_lower.specs.declared.nodes.Place.TheVariants.{Temp as temp}
+use Rattle.pc_lower.specs.declared.nodes.Step.TheVariants.{Const as const, Unary as unary_step, TakeElement as take_element}
 use Rattle.pc_lower.specs.Lowered.{steps_of}
 use Rattle.pc_lower.proofs.Trees.{behind}
 use Rattle.pc_lower.proofs.steps.+push_value.Goals as goal

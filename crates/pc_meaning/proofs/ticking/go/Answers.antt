@@ -1,5 +1,5 @@
 use Rattle.std.proofs.Common.{ℕ, List, length, sym, subst}
-use Rattle.pc_typed.specs.declared.typed.Function.{Function}
+use Rattle.pc_grammar.specs.declared.typed.Function.{Function}
 use Rattle.pc_meaning.specs.declared.places.Room.{Room}
 use Rattle.pc_meaning.specs.declared.standing.Standing.{Standing}
 use Rattle.pc_meaning.specs.declared.standing.Standing.TheVariants.{Unstarted, At}

@@ -1,7 +1,7 @@
 use Rattle.std.proofs.Common.{◌≡◌, ◌++◌, map, drop}
-use Rattle.pc_ast.specs.declared.programs.CellKind.TheVariants.{Local}
-use Rattle.pc_typed.specs.Places.{names_of}
-use Rattle.pc_typed.specs.Typing.{cell_of}
+use Rattle.pc_grammar.specs.declared.programs.CellKind.TheVariants.{Local}
+use Rattle.pc_grammar.specs.Places.{names_of}
+use Rattle.pc_grammar.specs.Typing.{cell_of}
 use Rattle.pc_names.proofs.cells.add_locals.Given as goal
 
 abbrev pub invariant-loop-name : goal.invariant-loop-name

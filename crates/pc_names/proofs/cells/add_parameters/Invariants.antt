@@ -1,6 +1,6 @@
 use Rattle.std.proofs.Common.{◌≡◌, ◌++◌, map, drop}
-use Rattle.pc_ast.specs.declared.programs.CellKind.TheVariants.{Parameter}
-use Rattle.pc_typed.specs.Typing.{cell_of}
+use Rattle.pc_grammar.specs.declared.programs.CellKind.TheVariants.{Parameter}
+use Rattle.pc_grammar.specs.Typing.{cell_of}
 use Rattle.pc_names.proofs.cells.add_parameters.Given as goal
 
 abbrev pub invariant-loop-name : goal.invariant-loop-name

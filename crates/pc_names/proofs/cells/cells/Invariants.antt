@@ -1,5 +1,5 @@
 use Rattle.std.proofs.Common.{◌≡◌, ◌++◌, drop}
-use Rattle.pc_typed.specs.Typing.{cells_of}
+use Rattle.pc_grammar.specs.Typing.{cells_of}
 use Rattle.pc_names.proofs.cells.cells.Given as goal
 
 abbrev pub invariant-loop-item : goal.invariant-loop-item

@@ -1,5 +1,5 @@
 use Rattle.std.proofs.Common.{◌≡◌, ◌++◌, map, drop}
-use Rattle.pc_typed.specs.Places.{names_of}
+use Rattle.pc_grammar.specs.Places.{names_of}
 use Rattle.pc_names.proofs.faults.declared_words.Given as goal
 
 abbrev pub invariant-loop-word : goal.invariant-loop-word

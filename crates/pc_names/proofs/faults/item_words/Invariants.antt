@@ -1,5 +1,5 @@
 use Rattle.std.proofs.Common.{◌≡◌, ◌++◌, map, drop}
-use Rattle.pc_typed.specs.Places.{word_of}
+use Rattle.pc_grammar.specs.Places.{word_of}
 use Rattle.pc_names.proofs.faults.item_words.Given as goal
 
 abbrev pub invariant-loop-item : goal.invariant-loop-item

@@ -1,8 +1,8 @@
 use Rattle.std.proofs.Common.{◌≡◌, ◌+◌, ◌∷◌, map, drop, sym, ap, ◌∙◌}
 use Rattle.std.specs.Prelude.{not}
 use Rattle.pt_base.specs.First.{first_of}
-use Rattle.pc_typed.specs.Places.{is_among}
-use Rattle.pc_typed.proofs.Lists.{next_at}
+use Rattle.pc_grammar.specs.Places.{is_among}
+use Rattle.pc_grammar.proofs.Lists.{next_at}
 use Rattle.pc_names.specs.Faults.{repeats}
 use Rattle.pc_names.proofs.Sets.{repeats_next, not_not}
 use Rattle.pc_names.proofs.faults.note_repeats.Goals as goal

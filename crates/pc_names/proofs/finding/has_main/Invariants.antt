@@ -1,6 +1,6 @@
 use Rattle.std.proofs.Common.{◌≡◌, drop}
 use Rattle.std.specs.List.{list_any}
-use Rattle.pc_typed.specs.Breaking.{is_main_item}
+use Rattle.pc_grammar.specs.Breaking.{is_main_item}
 use Rattle.pc_names.proofs.finding.has_main.Given as goal
 
 abbrev pub invariant-loop-item : goal.invariant-loop-item

@@ -1,6 +1,6 @@
 use Rattle.std.proofs.Common.{◌≡◌, drop}
 use Rattle.std.specs.Prelude.{find}
-use Rattle.pc_typed.specs.Breaking.{is_named_main}
+use Rattle.pc_grammar.specs.Breaking.{is_named_main}
 use Rattle.pc_names.proofs.finding.main_place.Given as goal
 
 abbrev pub invariant-loop-item : goal.invariant-loop-item

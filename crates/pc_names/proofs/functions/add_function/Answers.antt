@@ -1,6 +1,6 @@
 use Rattle.std.proofs.Common.{◌≡◌, ◌++◌, length, ap, ◌∙◌}
-use Rattle.pc_typed.specs.Places.{names_of}
-use Rattle.pc_typed.specs.Typing.{cells_of, cell_number, function_number, numbered_value, numbers_from, typed_locals}
+use Rattle.pc_grammar.specs.Places.{names_of}
+use Rattle.pc_grammar.specs.Typing.{cells_of, cell_number, function_number, numbered_value, numbers_from, typed_locals}
 use Rattle.pc_names.specs.Chains.{numbered_statements}
 use Rattle.pc_names.specs.Names.{cell_in, function_in}
 use Rattle.pc_names.proofs.Making.{function_added}

@@ -1,6 +1,6 @@
 use Rattle.std.proofs.Common.{◌≡◌, List, length, take, ap, arith}
-use Rattle.pc_ast.specs.declared.programs.Item.{Item}
-use Rattle.pc_typed.specs.Typing.{cells_of}
+use Rattle.pc_grammar.specs.declared.programs.Item.{Item}
+use Rattle.pc_grammar.specs.Typing.{cells_of}
 use Rattle.pc_names.proofs.Fitting.{At, at, cells_at, own_fits}
 use Rattle.pc_names.proofs.functions.functions.Goals as goal
 

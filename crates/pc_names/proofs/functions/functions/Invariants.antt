@@ -1,5 +1,5 @@
 use Rattle.std.proofs.Common.{◌≡◌, ◌++◌, [], take, drop}
-use Rattle.pc_typed.specs.Typing.{typed_from}
+use Rattle.pc_grammar.specs.Typing.{typed_from}
 use Rattle.pc_names.proofs.functions.functions.Given as goal
 
 abbrev pub invariant-loop-place : goal.invariant-loop-place

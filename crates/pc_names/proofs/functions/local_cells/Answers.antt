@@ -1,6 +1,6 @@
 use Rattle.std.proofs.Common.{◌≡◌, ◌+◌, ◌∷◌, drop, ap, ◌∙◌}
-use Rattle.pc_typed.specs.Typing.{cell_number, numbered_value}
-use Rattle.pc_typed.proofs.Lists.{next_at}
+use Rattle.pc_grammar.specs.Typing.{cell_number, numbered_value}
+use Rattle.pc_grammar.proofs.Lists.{next_at}
 use Rattle.pc_names.specs.Names.{cell_in}
 use Rattle.pc_names.proofs.Making.{local_added, local_counted, local_named}
 use Rattle.pc_names.proofs.functions.local_cells.Goals as goal

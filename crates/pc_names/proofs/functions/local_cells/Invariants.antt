@@ -1,6 +1,6 @@
 use Rattle.std.proofs.Common.{◌≡◌, ◌+◌, ◌++◌, length, drop}
-use Rattle.pc_typed.specs.Places.{names_of}
-use Rattle.pc_typed.specs.Typing.{cells_of, typed_locals}
+use Rattle.pc_grammar.specs.Places.{names_of}
+use Rattle.pc_grammar.specs.Typing.{cells_of, typed_locals}
 use Rattle.pc_names.proofs.functions.local_cells.Given as goal
 
 abbrev pub invariant-loop-name : goal.invariant-loop-name

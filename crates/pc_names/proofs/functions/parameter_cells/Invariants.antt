@@ -1,5 +1,5 @@
 use Rattle.std.proofs.Common.{◌≡◌, ◌+◌, ◌++◌, drop}
-use Rattle.pc_typed.specs.Typing.{numbers_from}
+use Rattle.pc_grammar.specs.Typing.{numbers_from}
 use Rattle.pc_names.proofs.functions.parameter_cells.Given as goal
 
 abbrev pub invariant-loop-word : goal.invariant-loop-word

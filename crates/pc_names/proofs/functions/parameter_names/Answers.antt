@@ -1,5 +1,5 @@
 use Rattle.std.proofs.Common.{◌≡◌, ◌+◌, ◌∷◌, ◌++◌, drop, sym, ap, ◌∙◌}
-use Rattle.pc_typed.proofs.Lists.{next_at}
+use Rattle.pc_grammar.proofs.Lists.{next_at}
 use Rattle.pc_names.proofs.functions.parameter_names.Goals as goal
 
 pub with-requires : goal.with-requires

@@ -1,5 +1,5 @@
 use Rattle.std.proofs.Common.{◌≡◌, ◌+◌, drop}
-use Rattle.pc_typed.specs.Typing.{functions_in}
+use Rattle.pc_grammar.specs.Typing.{functions_in}
 use Rattle.pc_names.proofs.resolving.count_functions.Given as goal
 
 abbrev pub invariant-loop-item : goal.invariant-loop-item

@@ -1,6 +1,6 @@
 use Rattle.std.proofs.Common.{ℕ, ◌<◌, ◌^◌, List, sym, subst}
-use Rattle.pc_ast.specs.declared.programs.Item.{Item}
-use Rattle.pc_typed.specs.Typing.{functions_in}
+use Rattle.pc_grammar.specs.declared.programs.Item.{Item}
+use Rattle.pc_grammar.specs.Typing.{functions_in}
 use Rattle.pc_names.specs.Names.{CanBeNumbered}
 use Rattle.pc_names.proofs.Fitting.{can_be_numbered}
 use Rattle.pc_names.proofs.resolving.typed.Goals as goal

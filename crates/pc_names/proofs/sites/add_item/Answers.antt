@@ -1,8 +1,8 @@
 use Rattle.std.proofs.Common.{◌++◌, List, Option, ap, subst, ◌∙◌}
-use Rattle.pc_ast.specs.declared.expressions.Word.{Word}
-use Rattle.pc_ast.specs.declared.expressions.Expr.{Expr}
-use Rattle.pc_typed.specs.Uses.{statements_uses, value_uses}
-use Rattle.pc_typed.specs.Places.{names_of}
+use Rattle.pc_grammar.specs.declared.expressions.Word.{Word}
+use Rattle.pc_grammar.specs.declared.expressions.Expr.{Expr}
+use Rattle.pc_grammar.specs.Uses.{statements_uses, value_uses}
+use Rattle.pc_grammar.specs.Places.{names_of}
 use Rattle.pc_names.specs.Names.{HasNames}
 use Rattle.pc_names.specs.Sites.{sites_of_locals, sites_of_uses}
 use Rattle.pc_names.proofs.Seeing.{item_added, same_sites}

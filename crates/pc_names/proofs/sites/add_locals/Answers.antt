@@ -1,8 +1,8 @@
 use Rattle.std.proofs.Common.{◌≡◌, ◌+◌, [], ◌∷◌, ◌++◌, List, take, drop, subst, sym, ap, ◌∙◌}
-use Rattle.pc_ast.specs.declared.expressions.Word.{Word}
-use Rattle.pc_typed.specs.Uses.{value_uses}
-use Rattle.pc_typed.specs.Places.{names_of}
-use Rattle.pc_typed.proofs.Lists.{next_at}
+use Rattle.pc_grammar.specs.declared.expressions.Word.{Word}
+use Rattle.pc_grammar.specs.Uses.{value_uses}
+use Rattle.pc_grammar.specs.Places.{names_of}
+use Rattle.pc_grammar.proofs.Lists.{next_at}
 use Rattle.pc_names.specs.Names.{HasNames}
 use Rattle.pc_names.proofs.Sets.{has_more}
 use Rattle.pc_names.proofs.Seeing.{same_sites, locals_kept, names_more}

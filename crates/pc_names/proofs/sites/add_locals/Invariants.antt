@@ -1,5 +1,5 @@
 use Rattle.std.proofs.Common.{◌≡◌, ◌++◌, take, drop}
-use Rattle.pc_typed.specs.Places.{names_of}
+use Rattle.pc_grammar.specs.Places.{names_of}
 use Rattle.pc_names.specs.Names.{HasNames}
 use Rattle.pc_names.specs.Sites.{sites_of_locals}
 use Rattle.pc_names.proofs.sites.add_locals.Given as goal

@@ -1,6 +1,6 @@
 use Rattle.std.proofs.Common.{◌≡◌, ◌||◌, drop}
-use Rattle.pc_ast.specs.declared.expressions.Word.{Word}
-use Rattle.pc_typed.specs.Places.{is_among}
+use Rattle.pc_grammar.specs.declared.expressions.Word.{Word}
+use Rattle.pc_grammar.specs.Places.{is_among}
 use Rattle.pc_names.proofs.sites.all_names.Given as goal
 
 abbrev pub invariant-loop-word : goal.invariant-loop-word

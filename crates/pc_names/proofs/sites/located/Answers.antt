@@ -1,6 +1,6 @@
 use Rattle.std.proofs.Common.{◌≡◌, true, false, sym, ap, ◌∙◌}
 use Rattle.std.specs.Prelude.{find}
-use Rattle.pc_typed.specs.Places.{is_among, has_name}
+use Rattle.pc_grammar.specs.Places.{is_among, has_name}
 use Rattle.pc_names.proofs.Seeing.{site_own, site_item}
 use Rattle.pc_names.proofs.sites.located.Goals as goal
 

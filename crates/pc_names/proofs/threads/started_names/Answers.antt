@@ -1,7 +1,7 @@
 use Rattle.std.proofs.Common.{◌≡◌, ◌+◌, ◌||◌, ◌∷◌, List, drop, subst}
-use Rattle.pc_ast.specs.declared.expressions.Word.{Word}
-use Rattle.pc_typed.specs.Places.{is_among}
-use Rattle.pc_typed.proofs.Lists.{next_at}
+use Rattle.pc_grammar.specs.declared.expressions.Word.{Word}
+use Rattle.pc_grammar.specs.Places.{is_among}
+use Rattle.pc_grammar.proofs.Lists.{next_at}
 use Rattle.pc_names.specs.Sites.{Site}
 use Rattle.pc_names.specs.Started.{started_item, started_items}
 use Rattle.pc_names.proofs.Sets.{among_sites}

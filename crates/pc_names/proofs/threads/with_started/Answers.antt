@@ -1,9 +1,9 @@
 use Rattle.std.proofs.Common.{◌&&◌, ap, sym, ◌∙◌}
 use Rattle.std.specs.Prelude.{not}
-use Rattle.pc_typed.specs.Places.{is_start}
+use Rattle.pc_grammar.specs.Places.{is_start}
 use Rattle.pc_names.specs.Started.{is_own}
 use Rattle.indexmap.specs.IndexSet.{insert_key}
-use Rattle.pc_typed.specs.Places.{same_text}
+use Rattle.pc_grammar.specs.Places.{same_text}
 use Rattle.pc_names.proofs.Sets.{among_started}
 use Rattle.pc_names.proofs.threads.with_started.Goals as goal
 

@@ -1,5 +1,5 @@
 use Rattle.std.proofs.Common.{◌≡◌, ◌++◌, map, drop}
-use Rattle.pc_typed.specs.Typing.{numbered}
+use Rattle.pc_grammar.specs.Typing.{numbered}
 use Rattle.pc_names.specs.Names.{cell_in}
 use Rattle.pc_names.proofs.trees.expressions.Given as goal
 

@@ -1,5 +1,5 @@
 use Rattle.std.proofs.Common.{◌++◌, sym, ap, ◌∙◌, append_assoc}
-use Rattle.pc_typed.specs.Uses.{expression_uses}
+use Rattle.pc_grammar.specs.Uses.{expression_uses}
 use Rattle.pc_names.specs.Rest.{chain_uses}
 use Rattle.pc_names.proofs.Walks.{chain}
 use Rattle.pc_names.proofs.uses.+expression.Goals as goal

@@ -1,5 +1,5 @@
 use Rattle.std.proofs.Common.{◌≡◌, ◌++◌, drop}
-use Rattle.pc_typed.specs.Uses.{statements_uses}
+use Rattle.pc_grammar.specs.Uses.{statements_uses}
 use Rattle.pc_names.proofs.uses.+statement.Given as goal
 
 abbrev pub invariant-statements-loop-s : goal.invariant-statements-loop-s

@@ -1,5 +1,5 @@
 use Rattle.std.proofs.Common.{◌≡◌, ◌++◌, drop}
-use Rattle.pc_typed.specs.Uses.{expressions_uses}
+use Rattle.pc_grammar.specs.Uses.{expressions_uses}
 use Rattle.pc_names.proofs.uses.expressions.Given as goal
 
 abbrev pub invariant-loop-e : goal.invariant-loop-e

@@ -1,6 +1,6 @@
 use Rattle.std.proofs.Common.{◌≡◌, ◌++◌, map, drop}
-use Rattle.pc_typed.specs.Uses.{use_of}
-use Rattle.pc_typed.specs.declared.roles.Role.TheVariants.{Starts}
+use Rattle.pc_grammar.specs.Uses.{use_of}
+use Rattle.pc_grammar.specs.declared.roles.Role.TheVariants.{Starts}
 use Rattle.pc_names.proofs.uses.threads.Given as goal
 
 abbrev pub invariant-loop-word : goal.invariant-loop-word

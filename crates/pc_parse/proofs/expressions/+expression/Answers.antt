@@ -2,7 +2,7 @@ use Rattle.std.proofs.Common.{◌-◌, ◌∷◌, ◌∙◌, sym, subst, arith, 
 use Rattle.std.proofs.lemmas.Result.{err_from_is_err_and}
 use Rattle.pc_parse.proofs.Chains.{chain_goes_on, chain_refuses, chain_ends}
 use Rattle.pc_parse.proofs.Pairs.{fails_last}
-use Rattle.pc_ast.specs.declared.expressions.Expr.TheVariants.{Elem}
+use Rattle.pc_grammar.specs.declared.expressions.Expr.TheVariants.{Elem}
 use Rattle.pc_parse.specs.Expressions.{OperandTakes}
 use Rattle.pc_parse.proofs.Holds.{is_name}
 use Rattle.pc_parse.proofs.Operands.{takes_name, element_takes, inside_refuses, fails_nothing, fails_deep_unary, fails_deep_inside}

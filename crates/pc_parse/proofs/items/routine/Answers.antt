@@ -1,6 +1,6 @@
 use Rattle.std.proofs.Common.{◌≡◌, Some, ◌∙◌, sym, ap}
 use Rattle.std.proofs.lemmas.Result.{err_from_is_err_and}
-use Rattle.pc_lex.specs.declared.tokens.Sort.TheVariants.{Name}
+use Rattle.pc_grammar.specs.declared.tokens.Sort.TheVariants.{Name}
 use Rattle.pc_grammar.specs.Refusing.{first}
 use Rattle.pc_parse.proofs.Functions.{routine_no_name, routine_frame_refuses, routine_not_closed}
 use Rattle.pc_parse.proofs.items.routine.Goals as goal

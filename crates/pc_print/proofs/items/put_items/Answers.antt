@@ -1,5 +1,5 @@
 use Rattle.std.proofs.Common.{List}
-use Rattle.pc_ast.specs.declared.programs.Item.{Item}
+use Rattle.pc_grammar.specs.declared.programs.Item.{Item}
 use Rattle.pc_print.specs.Parts.{text}
 use Rattle.pc_print.specs.Canonical.{item, items}
 use Rattle.pc_print.proofs.Pieces.{text-append}

@@ -1,6 +1,6 @@
 use Rattle.std.proofs.Common.{List, Option}
-use Rattle.pc_ast.specs.declared.expressions.Word.{Word}
-use Rattle.pc_ast.specs.declared.expressions.Expr.{Expr}
+use Rattle.pc_grammar.specs.declared.expressions.Word.{Word}
+use Rattle.pc_grammar.specs.declared.expressions.Expr.{Expr}
 use Rattle.pc_print.specs.Parts.{text}
 use Rattle.pc_print.specs.Canonical.{local, locals}
 use Rattle.pc_print.proofs.Pieces.{text-append}

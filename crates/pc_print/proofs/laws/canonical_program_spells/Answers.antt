@@ -1,5 +1,5 @@
 use Rattle.std.proofs.Common.{[]}
-use Rattle.pc_lex.specs.Lexing.{whole}
+use Rattle.pc_grammar.specs.Lexing.{whole}
 use Rattle.pc_print.specs.Parts.{text}
 use Rattle.pc_print.specs.Canonical.{items}
 use Rattle.pc_print.proofs.Stands.{reads_all}

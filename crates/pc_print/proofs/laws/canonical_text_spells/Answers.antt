@@ -1,5 +1,5 @@
 use Rattle.std.proofs.Common.{[]}
-use Rattle.pc_lex.specs.Lexing.{whole}
+use Rattle.pc_grammar.specs.Lexing.{whole}
 use Rattle.pc_print.specs.Canonical.{expression, expression_text}
 use Rattle.pc_print.specs.Tokens.{tokens}
 use Rattle.pc_print.proofs.Spelled.{spelled_again}

@@ -1,6 +1,6 @@
 use Rattle.std.proofs.Common.{List}
-use Rattle.pc_ast.specs.declared.expressions.Word.{Word}
-use Rattle.pc_ast.specs.declared.statements.Stmt.{Stmt}
+use Rattle.pc_grammar.specs.declared.expressions.Word.{Word}
+use Rattle.pc_grammar.specs.declared.statements.Stmt.{Stmt}
 use Rattle.pc_print.specs.Parts.{text}
 use Rattle.pc_print.specs.Canonical.{statement, statements}
 use Rattle.pc_print.proofs.Pieces.{text-append}

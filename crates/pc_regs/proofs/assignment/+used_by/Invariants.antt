@@ -1,5 +1,5 @@
 use Rattle.std.proofs.Common.{◌≡◌, max, drop}
-use Rattle.pc_ir.specs.Trees.{all_read}
+use Rattle.pc_lower.specs.Trees.{all_read}
 use Rattle.pc_regs.specs.Assignment.{used_by_all}
 use Rattle.pc_regs.proofs.assignment.+used_by.Given as goal
 

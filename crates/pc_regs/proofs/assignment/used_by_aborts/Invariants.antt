@@ -1,5 +1,5 @@
 use Rattle.std.proofs.Common.{◌≡◌, max, drop}
-use Rattle.pc_ir.specs.Trees.{pairs_of}
+use Rattle.pc_lower.specs.Trees.{pairs_of}
 use Rattle.pc_regs.specs.Assignment.{used_by_aborts}
 use Rattle.pc_regs.proofs.assignment.used_by_aborts.Given as goal
 

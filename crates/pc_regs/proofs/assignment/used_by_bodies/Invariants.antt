@@ -1,5 +1,5 @@
 use Rattle.std.proofs.Common.{◌≡◌, max, drop, map}
-use Rattle.pc_ir.specs.Trees.{read}
+use Rattle.pc_lower.specs.Trees.{read}
 use Rattle.pc_regs.specs.Assignment.{used_by_bodies}
 use Rattle.pc_regs.proofs.assignment.used_by_bodies.Given as goal
 

@@ -1,9 +1,9 @@
 use Rattle.std.proofs.Common.{◌≡◌, refl, map, fold, Option, Some, None, sym, ap, ◌∙◌}
 use Rattle.std.specs.Prelude.{List}
-use Rattle.pc_typed.specs.declared.typed.Function.{Function}
-use Rattle.pc_typed.specs.Finishing.{finishing}
-use Rattle.pc_typed.specs.Typing.{Typing}
-use Rattle.pc_typed.specs.Uses.{joined}
+use Rattle.pc_grammar.specs.declared.typed.Function.{Function}
+use Rattle.pc_grammar.specs.Finishing.{finishing}
+use Rattle.pc_grammar.specs.Typing.{Typing}
+use Rattle.pc_grammar.specs.Uses.{joined}
 use Rattle.pc_rules.specs.Nests.{function_nests}
 use Rattle.pc_rules.specs.Judging.{IsWithin}
 use Rattle.pc_rules.specs.Faults.{note_nest}

@@ -1,7 +1,7 @@
 use Rattle.std.proofs.Common.{◌≡◌, ◌++◌, List, Option, ℕ, min, map, sym, ap, ◌∙◌}
 use Rattle.std.proofs.lemmas.List.Sums.{fold-append}
-use Rattle.pc_typed.specs.declared.typed.Function.{Function}
-use Rattle.pc_typed.specs.Typing.{Typing}
+use Rattle.pc_grammar.specs.declared.typed.Function.{Function}
+use Rattle.pc_grammar.specs.Typing.{Typing}
 use Rattle.pc_rules.specs.Nests.{heights}
 use Rattle.pt_base.specs.First.{Fault, sooner, first_of}
 use Rattle.pc_rules.specs.Faults.{tall_faults, whole_faults}

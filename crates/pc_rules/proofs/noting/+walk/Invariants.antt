@@ -1,6 +1,6 @@
 use Rattle.std.proofs.Common.{◌≡◌, map, fold, drop}
-use Rattle.pc_typed.specs.Finishing.{finishing}
-use Rattle.pc_typed.specs.Uses.{joined}
+use Rattle.pc_grammar.specs.Finishing.{finishing}
+use Rattle.pc_grammar.specs.Uses.{joined}
 use Rattle.pc_rules.specs.Nests.{nests}
 use Rattle.pc_rules.specs.Faults.{note_nest}
 use Rattle.pc_rules.proofs.noting.+walk.Given as goal

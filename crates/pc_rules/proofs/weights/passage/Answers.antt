@@ -1,5 +1,5 @@
 use Rattle.std.proofs.Common.{◌≡◌, ℕ, min, map, List, ap, ◌∙◌}
-use Rattle.pc_typed.specs.declared.typed.Function.{Function}
+use Rattle.pc_grammar.specs.declared.typed.Function.{Function}
 use Rattle.pc_rules.specs.Weights.{passages, thread_sum}
 use Rattle.pc_rules.proofs.OverThreads.{thread_sum-bounded}
 use Rattle.pc_rules.proofs.weights.passage.Goals as goal

@@ -1,5 +1,5 @@
 use Rattle.std.proofs.Common.{◌≤◌, ◌∷◌, ◌++◌, [], ℕ, length, sym, ap, subst, ◌∙◌}
-use Rattle.pc_typed.specs.Typing.{Typing}
+use Rattle.pc_grammar.specs.Typing.{Typing}
 use Rattle.pc_meaning.specs.Programs.{program_of}
 use Rattle.pretc_run.proofs.meaning.mean_trace.Goals as goal
 

@@ -1,6 +1,6 @@
 use Rattle.std.proofs.Common.{◌≡◌, ◌-◌, ◌≤◌, length}
 use Rattle.pt_trace.specs.Report.{greatest}
-use Rattle.mb_step.specs.Run.{run_of}
+use Rattle.mb_isa.specs.Run.{run_of}
 use Rattle.pretc_run.specs.Told.{told}
 use Rattle.pretc_run.specs.Counted.{counted_rows, sum_of}
 use Rattle.pretc_run.proofs.Counting.{IsCounted}

@@ -1,6 +1,6 @@
 use Rattle.std.proofs.Common.{ℕ, List, Option, None, Result, Err, sym, ap, subst, ◌∙◌}
-use Rattle.tk_costs.specs.declared.reading.CostFault.{CostFault}
-use Rattle.tk_costs.specs.Reading.{Reads}
+use Rattle.tk_cert.specs.declared.costs.CostFault.{CostFault}
+use Rattle.tk_cert.specs.CostTables.{Reads}
 use Rattle.pretc_run.specs.declared.endings.Ending.TheVariants.{BadCosts, BadCost}
 use Rattle.pretc_top.specs.Check.{CostsRead, unit_costs, table_costs, CostsFail, no_document, missing_class, wrong_cost, unknown_key, costs_memory}
 use Rattle.pretc_top.proofs.checking.costs_of.Goals as goal

@@ -1,5 +1,5 @@
 use Rattle.std.proofs.Common.{ℕ, sym, subst}
-use Rattle.tk_bound.specs.Bounded.{BoundsRuns}
+use Rattle.tk_paths.specs.Bounded.{BoundsRuns}
 use Rattle.pretc_top.specs.Check.{image_fails, cert_fails, costs_fail}
 use Rattle.pretc_top.specs.Exec.{not_in_form}
 use Rattle.pretc_top.proofs.Judging.{yes_is, unaccepted_at}

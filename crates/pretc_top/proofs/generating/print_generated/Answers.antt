@@ -2,7 +2,7 @@ use Rattle.std.proofs.Common.{ℕ, List, [], ◌∷◌, ap, subst, ◌∙◌}
 use Rattle.pretc_run.specs.declared.endings.Ending.TheVariants.{Done, WantOfMemory}
 use Rattle.pretc_run.specs.Endings.{line_of}
 use Rattle.pretc_run.specs.Writing.{Answers}
-use Rattle.pc_generator.specs.Generated.{generated}
+use Rattle.pc_print.specs.Generated.{generated}
 use Rattle.pretc_top.specs.Says.{lines_of, generates, gen_memory}
 use Rattle.pretc_top.proofs.generating.print_generated.Goals as goal
 

@@ -1,9 +1,9 @@
 use Rattle.std.proofs.Common.{◌≡◌, [], ◌∷◌, refl, sym, ap, subst, ◌∙◌}
 use Rattle.pt_trace.specs.Accepted.{accepted_line}
-use Rattle.pc_typed.specs.Typing.{Typing}
+use Rattle.pc_grammar.specs.Typing.{Typing}
 use Rattle.pc_rules.specs.declared.sizes.Sizes.{Sizes}
 use Rattle.pc_rules.specs.Sizes.{AreSizes}
-use Rattle.pc_verdict.specs.Verdicts.{BreaksFirst}
+use Rattle.pc_rules.specs.Verdicts.{BreaksFirst}
 use Rattle.pretc_top.specs.declared.saying.Saying.{Saying}
 use Rattle.pretc_top.specs.Says.{SaysEnds, said, unsaid, IsRuled, rules_text}
 use Rattle.pretc_top.proofs.ruling.ruled.Goals as goal

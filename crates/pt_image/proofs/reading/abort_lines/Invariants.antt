@@ -1,6 +1,6 @@
 use Rattle.std.proofs.Common.{◌≡◌, ◌-◌}
-use Rattle.pt_lines.specs.Reading.{many_at}
-use Rattle.pt_lines.proofs.Loop.{with_front}
+use Rattle.pt_base.specs.Reading.{many_at}
+use Rattle.pt_base.proofs.Loop.{with_front}
 use Rattle.pt_image.specs.Reading.{abort_at}
 use Rattle.pt_image.proofs.reading.abort_lines.Given as goal
 

@@ -1,5 +1,5 @@
 use Rattle.std.proofs.Common.{◌≡◌, ◌++◌, drop}
-use Rattle.pt_lines.specs.Spelling.{each}
+use Rattle.pt_base.specs.Spelling.{each}
 use Rattle.pt_image.specs.Text.{abort_text}
 use Rattle.pt_image.proofs.writing.put_abort_lines.Given as goal
 

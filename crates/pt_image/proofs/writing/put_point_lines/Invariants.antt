@@ -1,5 +1,5 @@
 use Rattle.std.proofs.Common.{◌≡◌, ◌++◌, drop}
-use Rattle.pt_lines.specs.Spelling.{each}
+use Rattle.pt_base.specs.Spelling.{each}
 use Rattle.pt_image.specs.Text.{point_text}
 use Rattle.pt_image.proofs.writing.put_point_lines.Given as goal
 

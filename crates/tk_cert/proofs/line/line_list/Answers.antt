@@ -1,5 +1,5 @@
 use Rattle.std.proofs.lemmas.Result.{err_from_is_err_and}
-use Rattle.pt_lines.proofs.Loop.{goes_on, ends_as}
+use Rattle.pt_base.proofs.Loop.{goes_on, ends_as}
 use Rattle.tk_cert.specs.Reading.{line_at}
 use Rattle.tk_cert.proofs.line.line_list.Goals as goal
 

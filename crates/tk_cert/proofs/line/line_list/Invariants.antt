@@ -1,6 +1,6 @@
 use Rattle.std.proofs.Common.{◌≡◌, ◌-◌}
-use Rattle.pt_lines.specs.Reading.{many_at}
-use Rattle.pt_lines.proofs.Loop.{with_front}
+use Rattle.pt_base.specs.Reading.{many_at}
+use Rattle.pt_base.proofs.Loop.{with_front}
 use Rattle.tk_cert.specs.Reading.{line_at}
 use Rattle.tk_cert.proofs.line.line_list.Given as goal
 

@@ -1,6 +1,6 @@
 use Rattle.std.proofs.Common.{Some, None}
 use Rattle.std.proofs.lemmas.Result.{err_from_is_err_and}
-use Rattle.pt_lines.proofs.Loop.{goes_on, ends, form_of, seen_of}
+use Rattle.pt_base.proofs.Loop.{goes_on, ends, form_of, seen_of}
 use Rattle.tk_cert.specs.Reading.{state_at}
 use Rattle.tk_cert.proofs.walk.states.Goals as goal
 

@@ -1,5 +1,5 @@
 use Rattle.std.proofs.Common.{◌≡◌, ◌++◌, drop}
-use Rattle.pt_lines.specs.Spelling.{each}
+use Rattle.pt_base.specs.Spelling.{each}
 use Rattle.tk_cert.specs.Text.{line_text}
 use Rattle.tk_cert.proofs.writing.put_lines.Given as goal
 

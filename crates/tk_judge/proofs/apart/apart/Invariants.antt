@@ -1,6 +1,6 @@
 use Rattle.std.proofs.Common.{◌≡◌, ◌-◌}
 use Rattle.std.specs.List.{flat_map, range_with_len}
-use Rattle.tk_bound.specs.Kinds.{places_of}
+use Rattle.tk_paths.specs.Kinds.{places_of}
 use Rattle.tk_shape.specs.Refused.{refused}
 use Rattle.tk_judge.specs.Asks.{apart_at}
 use Rattle.tk_judge.proofs.apart.apart.Given as goal

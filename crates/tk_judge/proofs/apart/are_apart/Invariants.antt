@@ -1,6 +1,6 @@
 use Rattle.std.proofs.Common.{◌≡◌, drop}
 use Rattle.std.specs.List.{list_all}
-use Rattle.tk_bound.specs.Shape.{earlier}
+use Rattle.tk_paths.specs.Shape.{earlier}
 use Rattle.tk_judge.specs.Asks.{is_clear}
 use Rattle.tk_judge.proofs.apart.are_apart.Given as goal
 

@@ -1,6 +1,6 @@
 use Rattle.std.proofs.Common.{sym, ◌∙◌, length, ℕ, List, flat_map}
 use Rattle.tk_cert.specs.Demands.{Demand}
-use Rattle.tk_bound.specs.Kinds.{places_of}
+use Rattle.tk_paths.specs.Kinds.{places_of}
 use Rattle.tk_shape.specs.Refused.{refused}
 use Rattle.tk_shape.proofs.Refusals.{refused-past, refused-at}
 use Rattle.tk_judge.specs.Asks.{edges_at}

@@ -1,8 +1,8 @@
 use Rattle.std.proofs.Common.{◌∙◌, ℕ, Option}
 use Rattle.tk_cert.specs.Demands.{at_least}
-use Rattle.tk_bound.specs.declared.view.View.TheVariants.{On}
-use Rattle.tk_bound.specs.Sums.{plus, most_paused}
-use Rattle.tk_bound.specs.Acceptance.{number, more, weak_handlers}
+use Rattle.tk_paths.specs.declared.view.View.TheVariants.{On}
+use Rattle.tk_paths.specs.Sums.{plus, most_paused}
+use Rattle.tk_paths.specs.Acceptance.{number, more, weak_handlers}
 use Rattle.tk_shape.specs.declared.refusal.Refusal.{Refusal}
 use Rattle.tk_shape.specs.Refused.{refused}
 use Rattle.tk_shape.specs.Children.{starting}

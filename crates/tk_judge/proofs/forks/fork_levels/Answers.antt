@@ -3,7 +3,7 @@ use Rattle.std.specs.List.{range_with_len}
 use Rattle.tk_cert.specs.Demands.{Demand}
 use Rattle.tk_shape.specs.Refused.{refused}
 use Rattle.tk_shape.proofs.Refusals.{refused-past, refused-at}
-use Rattle.tk_bound.specs.Acceptance.{fork_at_level}
+use Rattle.tk_paths.specs.Acceptance.{fork_at_level}
 use Rattle.tk_judge.proofs.forks.fork_levels.Goals as goal
 
 pub returns-in-Some : goal.returns-in-Some

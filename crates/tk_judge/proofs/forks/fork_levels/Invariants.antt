@@ -1,7 +1,7 @@
 use Rattle.std.proofs.Common.{◌≡◌, ◌-◌}
 use Rattle.std.specs.List.{flat_map, range_with_len}
 use Rattle.tk_shape.specs.Refused.{refused}
-use Rattle.tk_bound.specs.Acceptance.{fork_at_level}
+use Rattle.tk_paths.specs.Acceptance.{fork_at_level}
 use Rattle.tk_judge.proofs.forks.fork_levels.Given as goal
 
 abbrev pub invariant-loop-level : goal.invariant-loop-level

@@ -1,7 +1,7 @@
 use Rattle.std.proofs.Common.{◌≡◌, sym, ◌∙◌}
-use Rattle.tk_levels.specs.Levels.{numbers_of}
+use Rattle.tk_paths.specs.Levels.{numbers_of}
 use Rattle.tk_numbers.specs.Nexts.{nexts}
-use Rattle.tk_levels.proofs.LevelLaws.{no-levels}
+use Rattle.tk_paths.proofs.LevelLaws.{no-levels}
 use Rattle.tk_numbers.proofs.nexts.next_levels.Goals as goal
 
 pub loop-k-init : goal.loop-k-init

@@ -1,5 +1,5 @@
 use Rattle.std.proofs.Common.{◌≡◌}
-use Rattle.tk_levels.specs.Levels.{numbers_of, levels_to}
+use Rattle.tk_paths.specs.Levels.{numbers_of, levels_to}
 use Rattle.tk_numbers.specs.Nexts.{nexts}
 use Rattle.tk_numbers.proofs.nexts.next_levels.Given as goal
 

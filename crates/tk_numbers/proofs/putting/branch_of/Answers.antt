@@ -1,5 +1,5 @@
 use Rattle.std.proofs.Common.{◌≡◌, ◌∙◌}
-use Rattle.tk_levels.specs.Levels.{numbers_of}
+use Rattle.tk_paths.specs.Levels.{numbers_of}
 use Rattle.tk_numbers.proofs.Tests.{branching_is}
 use Rattle.tk_numbers.proofs.putting.branch_of.Goals as goal
 

@@ -1,6 +1,6 @@
 use Rattle.std.proofs.Common.{◌≡◌, ◌≤◌, ◌++◌, drop, length}
-use Rattle.tk_levels.specs.Kinds.{kind_of}
-use Rattle.tk_levels.specs.Levels.{numbers_of}
+use Rattle.tk_paths.specs.PlaceKinds.{kind_of}
+use Rattle.tk_paths.specs.Levels.{numbers_of}
 use Rattle.tk_numbers.specs.Units.{charged, lines_at}
 use Rattle.tk_numbers.proofs.units.lines_at.Given as goal
 

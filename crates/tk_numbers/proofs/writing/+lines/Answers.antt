@@ -7,8 +7,8 @@ use Rattle.tk_paths.specs.Regions.{Region, through}
 use Rattle.tk_paths.specs.Numbers.{Numbers, after, region_lines, region_weights}
 use Rattle.tk_paths.specs.Trees.{regions_from, read_region}
 use Rattle.tk_numbers.specs.Charges.{routines_in}
-use Rattle.tk_levels.specs.Kinds.{kind_of}
-use Rattle.tk_levels.specs.Levels.{numbers_of}
+use Rattle.tk_paths.specs.PlaceKinds.{kind_of}
+use Rattle.tk_paths.specs.Levels.{numbers_of}
 use Rattle.tk_numbers.proofs.Values.{parts_read, choice_read, counted_read, repeated_read}
 use Rattle.tk_numbers.proofs.Lines.{front_before, sequence_lines, choice_lines, counted_lines, repeated_lines, through_anywhere, lines_anywhere, weights_anywhere}
 use Rattle.tk_numbers.proofs.writing.+lines.Goals as goal

@@ -3,8 +3,8 @@ use Rattle.tk_paths.specs.Regions.{through}
 use Rattle.tk_paths.specs.Numbers.{region_lines, region_weights}
 use Rattle.tk_paths.specs.Trees.{regions_from, read_region}
 use Rattle.tk_numbers.specs.Charges.{routines_in}
-use Rattle.tk_levels.specs.Kinds.{kind_of}
-use Rattle.tk_levels.specs.Levels.{numbers_of}
+use Rattle.tk_paths.specs.PlaceKinds.{kind_of}
+use Rattle.tk_paths.specs.Levels.{numbers_of}
 use Rattle.tk_numbers.proofs.writing.+lines.Given as goal
 
 abbrev pub invariant-parts_lines-loop-i : goal.invariant-parts_lines-loop-i

@@ -1,6 +1,6 @@
 use Rattle.std.proofs.Common.{flat_map, take}
 use Rattle.std.specs.Prelude.{slice_get}
-use Rattle.tk_bound.specs.Kinds.{places_of_abort}
+use Rattle.tk_paths.specs.Kinds.{places_of_abort}
 use Rattle.tk_shape.specs.Marked.{IsMore}
 use Rattle.tk_shape.proofs.asked.mark_aborts.Given as goal
 

@@ -1,5 +1,5 @@
 use Rattle.std.proofs.Common.{ap, ◌++◌}
-use Rattle.tk_bound.specs.Kinds.{asked_by_aborts, asked_by_word}
+use Rattle.tk_paths.specs.Kinds.{asked_by_aborts, asked_by_word}
 use Rattle.tk_shape.proofs.Marking.{more_append, more_as}
 use Rattle.tk_shape.proofs.asked.mark_line.Goals as goal
 

@@ -1,6 +1,6 @@
 use Rattle.std.proofs.Common.{flat_map}
 use Rattle.std.specs.List.{range_with_len}
-use Rattle.tk_bound.specs.Kinds.{asked_from}
+use Rattle.tk_paths.specs.Kinds.{asked_from}
 use Rattle.tk_shape.specs.Marked.{IsMore}
 use Rattle.tk_shape.proofs.asked.mark_places.Given as goal
 

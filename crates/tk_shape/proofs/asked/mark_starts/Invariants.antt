@@ -1,7 +1,7 @@
 use Rattle.std.proofs.Common.{flat_map}
 use Rattle.std.specs.Prelude.{slice_get}
 use Rattle.std.specs.List.{range_with_len}
-use Rattle.tk_bound.specs.Kinds.{place_in}
+use Rattle.tk_paths.specs.Kinds.{place_in}
 use Rattle.tk_shape.specs.Marked.{IsMore}
 use Rattle.tk_shape.proofs.asked.mark_starts.Given as goal
 

@@ -1,6 +1,6 @@
 use Rattle.std.proofs.Common.{◌≡◌, ◌<◌, ℕ, take}
 use Rattle.std.specs.Option.{option_to_list}
-use Rattle.tk_bound.specs.Kinds.{points_at}
+use Rattle.tk_paths.specs.Kinds.{points_at}
 use Rattle.tk_shape.specs.Looking.{found, number_at}
 use Rattle.tk_shape.proofs.index.index_of.Given as goal
 

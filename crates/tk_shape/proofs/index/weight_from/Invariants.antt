@@ -1,5 +1,5 @@
 use Rattle.std.proofs.Common.{◌≡◌, drop}
-use Rattle.tk_bound.specs.Shape.{weight_in}
+use Rattle.tk_paths.specs.Shape.{weight_in}
 use Rattle.tk_shape.proofs.index.weight_from.Given as goal
 
 abbrev pub invariant-loop-at : goal.invariant-loop-at

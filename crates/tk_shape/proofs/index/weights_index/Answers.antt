@@ -1,7 +1,7 @@
 use Rattle.std.proofs.Common.{◌≡◌, ◌≤◌, ◌-◌, ◌+◌, ℕ, length, drop, ap, sym, ◌∙◌, arith}
 use Rattle.std.specs.Prelude.{slice_index_or}
 use Rattle.std.proofs.lemmas.Option.{slice_get-get_or}
-use Rattle.tk_bound.specs.Shape.{weight_in}
+use Rattle.tk_paths.specs.Shape.{weight_in}
 use Rattle.tk_shape.proofs.Indexed.{rise_number, weigh_more}
 use Rattle.tk_shape.proofs.index.weights_index.Goals as goal
 

@@ -1,6 +1,6 @@
 use Rattle.std.proofs.Common.{◌≡◌, ◌≤◌, ◌<◌, ℕ, drop, length}
 use Rattle.std.specs.Prelude.{option_map}
-use Rattle.tk_bound.specs.Shape.{weight_in}
+use Rattle.tk_paths.specs.Shape.{weight_in}
 use Rattle.tk_shape.specs.Looking.{found, number_at}
 use Rattle.tk_shape.proofs.index.weights_index.Given as goal
 

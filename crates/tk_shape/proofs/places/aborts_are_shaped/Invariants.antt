@@ -1,5 +1,5 @@
 use Rattle.std.proofs.Common.{◌≡◌, [], take, drop}
-use Rattle.tk_bound.specs.Shape.{aborts_are_shaped}
+use Rattle.tk_paths.specs.Shape.{aborts_are_shaped}
 use Rattle.tk_shape.proofs.places.aborts_are_shaped.Given as goal
 
 abbrev pub invariant-loop-depth : goal.invariant-loop-depth

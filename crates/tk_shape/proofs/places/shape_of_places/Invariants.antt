@@ -1,8 +1,8 @@
 use Rattle.std.proofs.Common.{◌≡◌, ◌-◌, [], ◌∷◌}
 use Rattle.std.specs.List.{flat_map, range_with_len}
 use Rattle.tk_cert.specs.Demands.{shape_demand}
-use Rattle.tk_bound.specs.Kinds.{places_of}
-use Rattle.tk_bound.specs.Shape.{place_is_shaped}
+use Rattle.tk_paths.specs.Kinds.{places_of}
+use Rattle.tk_paths.specs.Shape.{place_is_shaped}
 use Rattle.tk_shape.specs.Refused.{refused}
 use Rattle.tk_shape.proofs.places.shape_of_places.Given as goal
 

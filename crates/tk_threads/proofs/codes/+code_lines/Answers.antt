@@ -9,7 +9,7 @@ use Rattle.tk_paths.specs.Programs.{pair_from}
 use Rattle.tk_paths.specs.Trees.{read_code, codes_from}
 use Rattle.tk_paths.proofs.Readings.{read-Sequence, read-Either, read-Turns, read-Forever, read-Resting, read-Forking, read-Guarded}
 use Rattle.tk_numbers.specs.Charges.{routines_in}
-use Rattle.tk_levels.specs.Levels.{numbers_of}
+use Rattle.tk_paths.specs.Levels.{numbers_of}
 use Rattle.tk_threads.specs.Codes.{entered_all, lines_all, weights_all}
 use Rattle.tk_threads.proofs.EntranceLaws.{front, pausing-is, forking-is-entered, entered-all, entered-either, entered-turns, entered-guarded}
 use Rattle.tk_threads.proofs.LineLaws.{lines-all, lines-more, lines-either, lines-turns, lines-forever, lines-guarded, weights-all}

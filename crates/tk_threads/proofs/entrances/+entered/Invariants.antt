@@ -2,7 +2,7 @@ use Rattle.std.proofs.Common.{◌≡◌, ◌≤◌, drop, length, map}
 use Rattle.tk_paths.specs.Programs.{pair_from}
 use Rattle.tk_paths.specs.Trees.{read_code}
 use Rattle.tk_numbers.specs.Charges.{routines_in}
-use Rattle.tk_levels.specs.Levels.{numbers_of}
+use Rattle.tk_paths.specs.Levels.{numbers_of}
 use Rattle.tk_threads.specs.Codes.{entered_all}
 use Rattle.tk_threads.proofs.entrances.+entered.Given as goal
 

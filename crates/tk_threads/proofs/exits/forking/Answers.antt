@@ -2,7 +2,7 @@ use Rattle.std.proofs.Common.{ap, ◌∙◌}
 use mathlib.Core.Path.{ap₂}
 use Rattle.tk_paths.specs.Numbers.{after}
 use Rattle.tk_paths.specs.Programs.{pair_from}
-use Rattle.tk_levels.specs.Levels.{numbers_of, added}
+use Rattle.tk_paths.specs.Levels.{numbers_of, added}
 use Rattle.tk_threads.proofs.EntranceLaws.{forking-is}
 use Rattle.tk_threads.proofs.exits.forking.Goals as goal
 

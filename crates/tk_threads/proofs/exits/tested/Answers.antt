@@ -1,6 +1,6 @@
 use Rattle.std.proofs.Common.{ap, ◌∙◌}
 use Rattle.tk_paths.specs.Numbers.{testing}
-use Rattle.tk_levels.specs.Levels.{numbers_of}
+use Rattle.tk_paths.specs.Levels.{numbers_of}
 use Rattle.tk_threads.proofs.EntranceLaws.{branching-is}
 use Rattle.tk_threads.proofs.exits.tested.Goals as goal
 

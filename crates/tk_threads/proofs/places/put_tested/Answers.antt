@@ -1,7 +1,7 @@
 use Rattle.std.proofs.Common.{◌≡◌, ◌++◌, ap, ◌∙◌}
 use mathlib.Core.Path.{ap₂}
 use Rattle.tk_paths.specs.Numbers.{Kind, Numbers, testing, test_lines}
-use Rattle.tk_levels.specs.Levels.{numbers_of}
+use Rattle.tk_paths.specs.Levels.{numbers_of}
 use Rattle.tk_threads.proofs.EntranceLaws.{branching-is}
 use Rattle.tk_threads.proofs.places.put_tested.Goals as goal
 

@@ -1,5 +1,5 @@
 use Rattle.std.proofs.Common.{◌≡◌, ◌≤◌, ◌-◌, length, refl, arith}
-use Rattle.tk_bound.specs.declared.view.Side.TheVariants.{ToPause, ToEnd}
+use Rattle.tk_paths.specs.declared.view.Side.TheVariants.{ToPause, ToEnd}
 use Rattle.tk_threads.proofs.RestLaws.{handled-start, handled-more}
 use Rattle.tk_threads.proofs.rests.handled.Goals as goal
 

@@ -1,6 +1,6 @@
 use Rattle.std.proofs.Common.{◌≡◌}
 use Rattle.tk_paths.specs.Numbers.{left}
-use Rattle.tk_levels.specs.Levels.{numbers_of, levels_to}
+use Rattle.tk_paths.specs.Levels.{numbers_of, levels_to}
 use Rattle.tk_threads.proofs.rests.left.Given as goal
 
 abbrev pub invariant-loop-k : goal.invariant-loop-k

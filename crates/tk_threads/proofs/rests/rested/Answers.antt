@@ -1,8 +1,8 @@
 use Rattle.std.proofs.Common.{◌≡◌, ◌+◌, ◌++◌, [], ◌∷◌, length, refl, ap, sym, ◌∙◌, arith}
 use mathlib.Core.Path.{ap₂}
 use Rattle.tk_paths.specs.Numbers.{rested}
-use Rattle.tk_levels.specs.Levels.{levels_to}
-use Rattle.tk_levels.proofs.LevelLaws.{no-levels, one-more}
+use Rattle.tk_paths.specs.Levels.{levels_to}
+use Rattle.tk_paths.proofs.LevelLaws.{no-levels, one-more}
 use Rattle.tk_threads.proofs.RestLaws.{rested-pair, rested-told}
 use Rattle.tk_threads.proofs.rests.rested.Goals as goal
 

@@ -1,6 +1,6 @@
 use Rattle.std.proofs.Common.{◌≡◌}
 use Rattle.tk_paths.specs.Numbers.{rested}
-use Rattle.tk_levels.specs.Levels.{levels_to}
+use Rattle.tk_paths.specs.Levels.{levels_to}
 use Rattle.tk_threads.proofs.rests.rested.Given as goal
 
 abbrev pub invariant-loop-k : goal.invariant-loop-k

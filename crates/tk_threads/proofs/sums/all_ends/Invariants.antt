@@ -1,5 +1,5 @@
 use Rattle.std.proofs.Common.{◌≡◌, ◌≤◌, ◌+◌, ◌-◌}
-use Rattle.tk_bound.specs.Sums.{all_ends}
+use Rattle.tk_paths.specs.Sums.{all_ends}
 use Rattle.tk_paths.specs.Programs.{pair_from}
 use Rattle.tk_threads.proofs.sums.all_ends.Given as goal
 

@@ -1,5 +1,5 @@
 use Rattle.std.proofs.Common.{◌≡◌, ◌≤◌, ◌+◌, ◌-◌}
-use Rattle.tk_bound.specs.Sums.{most, most_paused}
+use Rattle.tk_paths.specs.Sums.{most, most_paused}
 use Rattle.tk_paths.specs.Programs.{pair_from}
 use Rattle.tk_threads.proofs.sums.most_paused.Given as goal
 

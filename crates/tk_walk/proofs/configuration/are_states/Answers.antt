@@ -1,6 +1,6 @@
 use Rattle.std.proofs.Common.{◌≡◌, true, false, refl, sym, ap, ◌∙◌, arith, below_more}
 use Rattle.mb_pfu.specs.Tree.{slot_of}
-use Rattle.tk_bound.specs.Walks.{state_of}
+use Rattle.tk_paths.specs.Walks.{state_of}
 use Rattle.tk_walk.specs.Building.{state_at}
 use Rattle.tk_walk.proofs.Loops.{states-length, states-differ, states-same}
 use Rattle.tk_walk.proofs.configuration.are_states.Goals as goal

@@ -1,7 +1,7 @@
 use Rattle.std.proofs.Common.{◌≡◌, ap, ◌∙◌, Some, Ok}
-use Rattle.mb_step.specs.Words.{Plan}
-use Rattle.mb_step.specs.Step.{stepped}
-use Rattle.mb_step.specs.Cells.{machine}
+use Rattle.mb_isa.specs.Words.{Plan}
+use Rattle.mb_isa.specs.Step.{stepped}
+use Rattle.mb_isa.specs.Cells.{machine}
 use Rattle.mb_core.specs.Going.{went}
 use Rattle.mb_core.specs.Phases.{slot_in}
 use Rattle.mb_core.proofs.Phases.{plan-there}

@@ -1,7 +1,7 @@
 use Rattle.std.proofs.Common.{ap, ◌∙◌}
-use Rattle.mb_step.specs.Words.{Plan}
-use Rattle.mb_step.specs.Step.{stepped}
-use Rattle.mb_step.specs.Cells.{machine}
+use Rattle.mb_isa.specs.Words.{Plan}
+use Rattle.mb_isa.specs.Step.{stepped}
+use Rattle.mb_isa.specs.Cells.{machine}
 use Rattle.mb_core.proofs.core_state.Core.ret_in.Goals as goal
 
 pub returns-in-Some-clause-step : goal.returns-in-Some-clause-step

@@ -3,9 +3,9 @@ use Rattle.std.specs.Prelude.{is_some}
 use Rattle.std.specs.Option.{option_map}
 use Rattle.std.specs.HashMap.{get}
 use Rattle.std.proofs.lemmas.List.{take_more}
-use Rattle.pc_ast.specs.declared.expressions.Word.{Word}
-use Rattle.pc_ast.specs.declared.programs.Item.{Item}
-use Rattle.pc_typed.specs.Places.{word_of, same_text}
+use Rattle.pc_grammar.specs.declared.expressions.Word.{Word}
+use Rattle.pc_grammar.specs.declared.programs.Item.{Item}
+use Rattle.pc_grammar.specs.Places.{word_of, same_text}
 use Rattle.pc_names.specs.Names.{FindsItems}
 use Rattle.pc_names.proofs.Looking.{still_finds, newly_finds, is_some-map, map-cond}
 use Rattle.pc_names.proofs.before.Before.with.Goals as goal

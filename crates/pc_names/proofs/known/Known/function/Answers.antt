@@ -1,6 +1,6 @@
 use Rattle.std.proofs.Common.{ap, ◌∙◌}
 use Rattle.std.specs.Prelude.{slice_get, unwrap_or}
-use Rattle.pc_typed.specs.Typing.{function_number}
+use Rattle.pc_grammar.specs.Typing.{function_number}
 use Rattle.pc_names.proofs.Starts.{function_is}
 use Rattle.pc_names.proofs.known.Known.function.Goals as goal
 

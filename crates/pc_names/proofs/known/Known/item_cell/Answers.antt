@@ -1,6 +1,6 @@
 use Rattle.std.proofs.Common.{ap, ◌∙◌}
 use Rattle.std.specs.Prelude.{slice_get, unwrap_or, length}
-use Rattle.pc_typed.specs.Typing.{cells_of, until}
+use Rattle.pc_grammar.specs.Typing.{cells_of, until}
 use Rattle.pc_names.proofs.Starts.{item_cell_is}
 use Rattle.pc_names.proofs.known.Known.item_cell.Goals as goal
 

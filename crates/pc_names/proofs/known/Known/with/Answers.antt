@@ -1,8 +1,8 @@
 use Rattle.std.proofs.Common.{◌≡◌, ◌+◌, List, [], ◌∷◌, ◌++◌, map, length, take, sym, ap, ◌∙◌, arith}
 use Rattle.std.proofs.lemmas.List.{take_more}
-use Rattle.pc_ast.specs.declared.programs.Item.{Item}
-use Rattle.pc_typed.specs.Places.{word_of, is_among}
-use Rattle.pc_typed.specs.Typing.{cells_of, functions_in}
+use Rattle.pc_grammar.specs.declared.programs.Item.{Item}
+use Rattle.pc_grammar.specs.Places.{word_of, is_among}
+use Rattle.pc_grammar.specs.Typing.{cells_of, functions_in}
 use Rattle.pc_names.proofs.Starts.{known_with}
 use Rattle.pc_names.proofs.Fitting.{At, at, cells_at, functions_at, new_at}
 use Rattle.pc_names.proofs.known.Known.with.Goals as goal

@@ -1,5 +1,5 @@
 use Rattle.std.proofs.Common.{sym, ap, ◌∙◌}
-use Rattle.pc_typed.specs.Places.{is_thread}
+use Rattle.pc_grammar.specs.Places.{is_thread}
 use Rattle.pc_names.proofs.Threading.{main_is_thread, other_is_thread}
 use Rattle.pc_names.proofs.threads.Threads.is_thread.Goals as goal
 

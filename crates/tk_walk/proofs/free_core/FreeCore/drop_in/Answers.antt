@@ -1,7 +1,7 @@
 use Rattle.std.proofs.Common.{ap, ◌∙◌, drop}
-use Rattle.mb_step.specs.Words.{Plan}
-use Rattle.mb_step.specs.Step.{stepped}
-use Rattle.mb_step.specs.Free.{free}
+use Rattle.mb_isa.specs.Words.{Plan}
+use Rattle.mb_isa.specs.Step.{stepped}
+use Rattle.mb_isa.specs.Free.{free}
 use Rattle.tk_walk.proofs.free_core.FreeCore.drop_in.Goals as goal
 
 pub returns-in-Some-clause-step : goal.returns-in-Some-clause-step

@@ -1,7 +1,7 @@
 use Rattle.std.proofs.Common.{suc, refl, sym, ◌∙◌, subst, Bool, List, arith}
-use Rattle.mb_step.specs.Free.{free}
-use Rattle.mb_step.specs.Tick.{Outcome}
-use Rattle.mb_step.proofs.Turning.{goes_on, is_late, is_over}
+use Rattle.mb_isa.specs.Free.{free}
+use Rattle.mb_isa.specs.Tick.{Outcome}
+use Rattle.mb_isa.proofs.Turning.{goes_on, is_late, is_over}
 use Rattle.tk_walk.specs.Going.{left}
 use Rattle.tk_walk.specs.Phases.{control_of, IsUnfinished}
 use Rattle.tk_walk.proofs.Spending.{is_halted, none-there}

@@ -1,6 +1,6 @@
 use Rattle.std.proofs.Common.{◌≡◌, ◌≤◌, ◌+◌, ◌-◌, ℕ, suc}
-use Rattle.mb_step.specs.Tick.{run}
-use Rattle.mb_step.specs.Free.{free}
+use Rattle.mb_isa.specs.Tick.{run}
+use Rattle.mb_isa.specs.Free.{free}
 use Rattle.tk_walk.specs.Going.{left}
 use Rattle.tk_walk.specs.Phases.{control_of, IsPhase}
 use Rattle.tk_walk.proofs.free_core.FreeCore.run.Given as goal

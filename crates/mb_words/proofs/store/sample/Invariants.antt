@@ -1,9 +1,0 @@
-use Rattle.std.proofs.Common.{◌≡◌, drop}
-use Rattle.mb_step.specs.Cells.{with_inputs}
-use Rattle.mb_words.proofs.store.sample.Given as goal
-
-abbrev pub invariant-loop-i : goal.invariant-loop-i
-invariant-loop-i l = record {
-  rest : with_inputs (drop l.i l.places) (drop l.i l.values) l.store.memory ≡ with_inputs l.places l.values l.fn.store.memory;
-  registers : l.store.registers ≡ l.fn.store.registers;
-}

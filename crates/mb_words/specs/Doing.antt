@@ -1,8 +1,0 @@
--- What a call does to registers and memory.
-use Rattle.std.specs.Prelude.{◌≡◌, Bool, true, false, Option, Some, None}
-use Rattle.mb_step.specs.Cells.{Cells}
-
--- data do a word, or its address is bad
-abbrev pub DoesWork : Option Cells → Bool → Cells → Type 0
-DoesWork None done new = done ≡ false
-DoesWork (Some next) done new = (done ≡ true) × (new ≡ next)

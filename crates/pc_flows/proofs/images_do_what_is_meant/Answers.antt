@@ -1,7 +1,0 @@
-use Rattle.pc_region.specs.Laws.{Agree}
-use Rattle.pc_flows.proofs.Whole.{does-what-is-meant}
-use Rattle.pc_flows.proofs.images_do_what_is_meant.Goals as goal
-
-pub returns : goal.returns
-returns c = λ p parent image writing sizes placing compared fit whole small laws.
-    does-what-is-meant p fit parent image writing sizes placing whole small (Agree compared) laws

@@ -1,6 +1,0 @@
-use Rattle.std.proofs.Common.{◌≡◌, ◌++◌}
-use Rattle.pc_generator.specs.Generated.{counted, thread}
-use Rattle.pc_generator.proofs.generating.put_threads.Given as goal
-
-abbrev pub invariant-loop-i : goal.invariant-loop-i
-invariant-loop-i l = l.out.items ≡ l.initial.out.items ++ counted thread l.i

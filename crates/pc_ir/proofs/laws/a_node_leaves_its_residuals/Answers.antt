@@ -1,5 +1,0 @@
-use Rattle.pc_ir.proofs.Leaving.{flow_leaves}
-use Rattle.pc_ir.proofs.laws.a_node_leaves_its_residuals.Goals as goal
-
-pub returns : goal.returns
-returns c = λ bodies f w. flow_leaves bodies f w

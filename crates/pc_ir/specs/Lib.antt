@@ -1,3 +1,0 @@
-pub mod Flow
-pub mod Residuals
-pub mod Trees

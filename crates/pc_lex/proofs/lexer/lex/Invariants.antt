@@ -1,9 +1,0 @@
-use Rattle.std.proofs.Common.{length}
-use Rattle.pc_lex.proofs.Cuts.{CutSoFar}
-use Rattle.pc_lex.proofs.lexer.lex.Given as goal
-
-abbrev pub invariant-cutting : goal.invariant-cutting
-invariant-cutting l = CutSoFar l.text l.tokens.items l.at l.rest
-
-abbrev pub decreases-cutting : goal.decreases-cutting
-decreases-cutting l = length l.rest

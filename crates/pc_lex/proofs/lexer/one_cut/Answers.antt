@@ -1,5 +1,0 @@
-use Rattle.pc_lex.proofs.One.{one_cut}
-use Rattle.pc_lex.proofs.lexer.one_cut.Goals as goal
-
-pub returns : goal.returns
-returns c = one_cut

@@ -1,5 +1,0 @@
-use Rattle.pc_lex.proofs.Values.{ReadSoFar}
-use Rattle.pc_lex.proofs.numbers.number_in.Given as goal
-
-abbrev pub invariant-loop-digit : goal.invariant-loop-digit
-invariant-loop-digit l = ReadSoFar l.base l.digits l.digit-index l.value

@@ -1,0 +1,8 @@
+use Rattle.pc_lower_cases.specs.Ports.{HasPorts}
+use Rattle.pc_lower_cases.proofs.operator_tests.binary_so.Given as goal
+
+abbrev pub invariant-loop-b : goal.invariant-loop-b
+invariant-loop-b l = HasPorts l.machine
+
+abbrev pub invariant-loop-a : goal.invariant-loop-a
+invariant-loop-a l = HasPorts l.machine

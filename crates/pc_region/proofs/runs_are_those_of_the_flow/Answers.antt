@@ -1,8 +1,0 @@
-use Rattle.std.specs.Prelude.{IsTrue}
-use Rattle.pc_region.specs.Laws.{Agree}
-use Rattle.pc_region.proofs.Runs.{runs}
-use Rattle.pc_region.proofs.runs_are_those_of_the_flow.Goals as goal
-
-pub returns : goal.returns
-returns c = λ parent image costs f writing sizes placing compared kept most whole small laws steady ample temps rows fit.
-    runs parent image costs f writing sizes placing whole small (Agree compared) laws (λ p. IsTrue (kept p)) steady most ample temps rows fit

@@ -1,5 +1,0 @@
-use Rattle.pc_region.proofs.Example.{image-of, within-limits, data-laws}
-use Rattle.pc_region.proofs.the_example_meets_them.Goals as goal
-
-pub returns : goal.returns
-returns c = λ costs priced. (image-of costs priced, within-limits, data-laws)

@@ -1,5 +1,0 @@
-use Rattle.pc_region.proofs.Limits.{limited}
-use Rattle.pc_region.proofs.ticks_are_limited.Goals as goal
-
-pub returns : goal.returns
-returns c = λ parent image costs f writing sizes placing whole small p t stands. limited parent image costs f writing sizes placing whole small p t stands

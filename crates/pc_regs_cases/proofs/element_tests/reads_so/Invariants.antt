@@ -1,5 +1,0 @@
-use Rattle.pc_regs_cases.specs.Ports.{HasPorts}
-use Rattle.pc_regs_cases.proofs.element_tests.reads_so.Given as goal
-
-abbrev pub invariant-loop-i : goal.invariant-loop-i
-invariant-loop-i l = HasPorts l.machine

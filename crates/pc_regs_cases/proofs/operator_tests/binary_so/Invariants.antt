@@ -1,8 +1,0 @@
-use Rattle.pc_regs_cases.specs.Ports.{HasPorts}
-use Rattle.pc_regs_cases.proofs.operator_tests.binary_so.Given as goal
-
-abbrev pub invariant-loop-b : goal.invariant-loop-b
-invariant-loop-b l = HasPorts l.machine
-
-abbrev pub invariant-loop-a : goal.invariant-loop-a
-invariant-loop-a l = HasPorts l.machine

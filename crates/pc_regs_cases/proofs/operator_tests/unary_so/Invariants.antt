@@ -1,5 +1,0 @@
-use Rattle.pc_regs_cases.specs.Ports.{HasPorts}
-use Rattle.pc_regs_cases.proofs.operator_tests.unary_so.Given as goal
-
-abbrev pub invariant-loop-a : goal.invariant-loop-a
-invariant-loop-a l = HasPorts l.machine

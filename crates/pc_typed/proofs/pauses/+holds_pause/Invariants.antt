@@ -1,7 +1,0 @@
-use Rattle.std.proofs.Common.{◌≡◌, drop}
-use Rattle.std.specs.List.{list_any}
-use Rattle.pc_typed.specs.Uses.{holds_pause}
-use Rattle.pc_typed.proofs.pauses.+holds_pause.Given as goal
-
-abbrev pub invariant-hold_pauses-loop-s : goal.invariant-hold_pauses-loop-s
-invariant-hold_pauses-loop-s over l = list_any holds_pause (drop l.s-index l.all) ≡ list_any holds_pause l.all

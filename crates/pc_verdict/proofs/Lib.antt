@@ -1,2 +1,0 @@
-mod Phases
-pub mod Readings

@@ -1,8 +1,0 @@
-use Rattle.pt_lines.proofs.FieldLaws.{list_reads, numbers_read}
-use Rattle.pt_lines.proofs.exact.lists_are_exact.Goals as goal
-
-pub returns-clause-alone : goal.returns-clause-alone
-returns-clause-alone c = list_reads
-
-pub returns-clause-ended : goal.returns-clause-ended
-returns-clause-ended c = numbers_read

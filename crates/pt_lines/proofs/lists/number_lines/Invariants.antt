@@ -1,7 +1,0 @@
-use Rattle.std.proofs.Common.{◌≡◌, ◌-◌}
-use Rattle.pt_lines.specs.Reading.{many_at, number_then_at}
-use Rattle.pt_lines.proofs.Loop.{with_front}
-use Rattle.pt_lines.proofs.lists.number_lines.Given as goal
-
-abbrev pub invariant-loop : goal.invariant-loop
-invariant-loop l = with_front l.values.items (many_at (number_then_at 10 l.limit) (l.count - l.counter) l.rest) ≡ many_at (number_then_at 10 l.limit) l.count l.bytes

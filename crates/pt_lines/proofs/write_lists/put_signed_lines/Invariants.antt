@@ -1,6 +1,0 @@
-use Rattle.std.proofs.Common.{◌≡◌, ◌++◌, drop}
-use Rattle.pt_lines.specs.Spelling.{each, signed_text}
-use Rattle.pt_lines.proofs.write_lists.put_signed_lines.Given as goal
-
-abbrev pub invariant-loop-value : goal.invariant-loop-value
-invariant-loop-value l = l.out.items ++ each signed_text (drop l.value-index l.values) ≡ l.fn.out.items ++ each signed_text l.values

@@ -1,5 +1,0 @@
-use Rattle.tk_bound.proofs.Bounds.{accepts-of, bounds-runs}
-use Rattle.tk_bound.proofs.a_yes_bounds_runs.Goals as goal
-
-pub returns : goal.returns
-returns c = λ image cert costs h. bounds-runs image cert costs (accepts-of image cert costs h) h.priced

@@ -1,7 +1,0 @@
-use Rattle.std.proofs.Common.{◌≡◌, drop}
-use Rattle.toml.specs.View.{table_view}
-use Rattle.tk_costs.specs.Reading.{missing}
-use Rattle.tk_costs.proofs.reading.first_missing.Given as goal
-
-abbrev pub invariant-loop-class : goal.invariant-loop-class
-invariant-loop-class l = missing (table_view l.table) l.classes ≡ missing (table_view l.table) (drop l.class-index l.classes)

@@ -1,6 +1,0 @@
-use Rattle.std.proofs.Common.{refl, ◌∙◌}
-use Rattle.tk_levels.proofs.LevelLaws.{nothing-told}
-use Rattle.tk_levels.proofs.levels.nothing.Goals as goal
-
-pub returns : goal.returns
-returns c = nothing-told _ (c.of.ensures ∙ c.new-none.ensures.items) refl

@@ -1,4 +1,0 @@
-pub mod Faults
-pub mod Made
-pub mod Levels
-pub mod Kinds

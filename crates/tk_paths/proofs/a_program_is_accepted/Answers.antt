@@ -1,9 +1,0 @@
-use Rattle.mb_isa.proofs.CostRange.{cost_of-range}
-use Rattle.tk_paths.proofs.ProgramLaws.{program-greatest, program-accepted}
-use Rattle.tk_paths.proofs.a_program_is_accepted.Goals as goal
-
-pub returns : goal.returns
-returns c = λ image program costs walk image_is priced ok. (
-  program-accepted image program costs walk ok image_is (λ k. (cost_of-range costs priced k).0) priced,
-  program-greatest image program costs walk ok image_is (λ k. (cost_of-range costs priced k).0),
-)

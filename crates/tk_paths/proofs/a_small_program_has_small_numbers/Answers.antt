@@ -1,9 +1,0 @@
-use Rattle.std.proofs.Common.{arith}
-use Rattle.mb_isa.proofs.CostRange.{cost_of-range}
-use Rattle.tk_paths.proofs.SmallNumbers.{small-numbers}
-use Rattle.tk_paths.proofs.a_small_program_has_small_numbers.Goals as goal
-
-pub returns : goal.returns
-returns c = λ image program costs walk image_is priced ok little.
-    small-numbers image program costs walk ok image_is (λ k. (cost_of-range costs priced k).0)
-    (λ k. let h = (cost_of-range costs priced k).1 in omega (arith, h)) priced little

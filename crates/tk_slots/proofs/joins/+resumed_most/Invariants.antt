@@ -1,4 +1,0 @@
-use Rattle.tk_slots.proofs.joins.+resumed_most.Given as goal
-
-abbrev pub decreases-resumed_most : goal.decreases-resumed_most
-decreases-resumed_most l = l.count

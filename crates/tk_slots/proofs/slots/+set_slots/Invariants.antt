@@ -1,4 +1,0 @@
-use Rattle.tk_slots.proofs.slots.+set_slots.Given as goal
-
-abbrev pub decreases-set_slots : goal.decreases-set_slots
-decreases-set_slots l = l.count

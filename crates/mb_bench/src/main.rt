@@ -8,8 +8,8 @@ use mb_core::{Machine, Trap};
 use mb_isa::unit_costs;
 use pt_base::{Memory, Text};
 use pt_image::Image;
-use std::io;
 use std::alloc::Global;
+use std::io;
 
 // The cycles that a tick may take.
 const MOST: u64 = 1_000_000_000_000;

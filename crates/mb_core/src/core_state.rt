@@ -9,7 +9,9 @@ ghost use Rattle.mb_core.specs.Going.{IsStep, IsWord, IsLed, IsTarget, IsTurn, K
 
 use crate::loading::Loaded;
 use crate::parts::{To, Went};
-use mb_isa::{Class, Costs, Instr, Reg, Store, branch_place, class, immediate, sample, takes_upper};
+use mb_isa::{
+    Class, Costs, Instr, Reg, Store, branch_place, class, immediate, sample, takes_upper,
+};
 use mb_pfu::{Slot, TrapKind, Unit};
 use std::marker::Model;
 

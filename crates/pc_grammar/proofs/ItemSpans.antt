@@ -13,7 +13,7 @@ use Rattle.pc_grammar.specs.Items.{size, SpellsReactive, reactive, function, Spe
 use Rattle.pc_grammar.specs.Programs.{IsProgram, none as no_items, more as more_items}
 use Rattle.pc_grammar.specs.Spans.{each, name_spans, expression_spans, local_spans, frame_spans, item_spans, spans_of, Rises, SpansRise}
 use Rattle.pc_grammar.proofs.Within.{Within, nowhere, past, here, both, then, within_as, within_between}
-use Rattle.pc_grammar.proofs.Statements.{within_listed, Behind, within_parts}
+use Rattle.pc_grammar.proofs.StatementFacts.{within_listed, Behind, within_parts}
 
 within_start : {w : List Token} {z : ℤ} → SpellsStart w z → Within w []
 within_start (positive a is (ended n z is_number is_end)) = past a (past n (past z nowhere))

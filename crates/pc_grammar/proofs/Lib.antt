@@ -8,7 +8,7 @@ pub mod One
 pub mod Longest
 pub mod Equations
 pub mod ItemSpans
-pub mod Statements
+pub mod StatementFacts
 pub mod Within
 pub mod Lists
 pub mod Finishes

@@ -11,8 +11,8 @@ use Rattle.pc_grammar.specs.declared.marks.Mark.{Mark}
 use Rattle.pc_grammar.specs.declared.marks.Mark.TheVariants.{OpenParenthesis as OpenParenthesisMark, CloseParenthesis as CloseParenthesisMark, OpenBracket as OpenBracketMark, CloseBracket as CloseBracketMark, OpenBrace as OpenBraceMark, CloseBrace as CloseBraceMark, Equals as EqualsMark, Semicolon as SemicolonMark, Comma as CommaMark, Hash as HashMark, IntWord as IntMark, ElseWord as ElseMark, ReturnWord as ReturnMark, AbortWord as AbortMark, WhenWord as WhenMark, PreWord as PreMark}
 use Rattle.pc_grammar.specs.declared.marks.Pair.{Pair}
 use Rattle.pc_grammar.specs.declared.marks.Pair.TheVariants.{Parentheses, Brackets, Assignment, Result}
-use Rattle.pc_grammar.specs.declared.marks.Opening.{Opening}
-use Rattle.pc_grammar.specs.declared.marks.Opening.TheVariants.{Number as NumberOpening, Name as NameOpening, Unary as UnaryOpening, Parenthesis as ParenthesisOpening, Nothing as NothingOpening}
+use Rattle.pc_grammar.specs.declared.marks.OperandOpening.{OperandOpening}
+use Rattle.pc_grammar.specs.declared.marks.OperandOpening.TheVariants.{Number as NumberOpening, Name as NameOpening, Unary as UnaryOpening, Parenthesis as ParenthesisOpening, Nothing as NothingOpening}
 
 -- the operators before an operand
 unfoldable pub unary_in : Sort → Option UnOp
@@ -101,11 +101,11 @@ sort_of WhenMark = WhenWord
 sort_of PreMark = PreWord
 
 -- what an operand begins with
-abbrev pub unary_opening : Option UnOp → Opening
+abbrev pub unary_opening : Option UnOp → OperandOpening
 unary_opening (Some op) = UnaryOpening op
 unary_opening None = NothingOpening
 
-unfoldable pub opening_of : Sort → Opening
+unfoldable pub opening_of : Sort → OperandOpening
 opening_of (Number value) = NumberOpening value
 opening_of Name = NameOpening
 opening_of OpenParenthesis = ParenthesisOpening

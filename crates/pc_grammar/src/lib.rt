@@ -41,7 +41,7 @@ pub use frames::Frame;
 pub use laws::spans_rise;
 pub use lexer::{lex, longest_sign, one_cut};
 pub use marks::{
-    LEVELS, Mark, Opening, Pair, binary_operator, closes, is_mark, level_number, opens,
+    LEVELS, Mark, OperandOpening, Pair, binary_operator, closes, is_mark, level_number, opens,
     operand_opening,
 };
 pub use pauses::{hold_pauses, holds_pause};

@@ -39,7 +39,7 @@ pub enum Pair {
 
 /// What an operand begins with.
 #[derive(Clone, Copy)]
-pub enum Opening {
+pub enum OperandOpening {
     Number(u32),
     Name,
     Unary(UnOp),
@@ -109,17 +109,17 @@ fn unary_operator(sort: Sort) -> Option<UnOp>
 
 /// What an operand is that begins with a token of this sort.
 #[tactic(auto, unfolding(crate::specs::Signs::opening_of))]
-pub fn operand_opening(sort: Sort) -> Opening
+pub fn operand_opening(sort: Sort) -> OperandOpening
     ensures { result ≡ opening_of sort }
 {
     match sort {
-        Sort::Number(value) => Opening::Number(value),
-        Sort::Name => Opening::Name,
-        Sort::OpenParenthesis => Opening::Parenthesis,
+        Sort::Number(value) => OperandOpening::Number(value),
+        Sort::Name => OperandOpening::Name,
+        Sort::OpenParenthesis => OperandOpening::Parenthesis,
         _ => {
             match unary_operator(sort) {
-                Some(op) => Opening::Unary(op),
-                None => Opening::Nothing,
+                Some(op) => OperandOpening::Unary(op),
+                None => OperandOpening::Nothing,
             }
         }
     }

@@ -41,8 +41,8 @@ pub use flow_laws::{
     flows_are_within_limits, flows_can_be_laid, flows_keep_to_their_cells, images_do_what_is_meant,
 };
 pub use laws::{
-    a_flow_is_correct, a_passage_is_within_its_number, a_typed_flow_is_correct, a_typed_flow_is_few,
-    a_typed_program_fits, aborts_are_listed, lowering_keeps_start_and_resume,
+    a_flow_is_correct, a_passage_is_within_its_number, a_typed_flow_is_correct,
+    a_typed_flow_is_few, a_typed_program_fits, aborts_are_listed, lowering_keeps_start_and_resume,
     rules_on_loops_hold_of_the_tree, steps_leave_the_value, temporaries_are_few,
     weights_are_those_of_the_language, words_are_within_the_weight,
 };

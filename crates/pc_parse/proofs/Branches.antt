@@ -16,7 +16,7 @@ use Rattle.pc_parse.specs.Expressions.{BetweenTakes, BetweenFails}
 use Rattle.pc_parse.proofs.Behind.{fails_behind}
 use Rattle.pc_parse.proofs.Operands.{some_token}
 use Rattle.pc_parse.proofs.Unique.{unique_between}
-use Rattle.pc_parse.specs.declared.simple.Beginning.TheVariants.{If as IfBeginning}
+use Rattle.pc_parse.specs.declared.simple.StatementOpening.TheVariants.{If as IfBeginning}
 use Rattle.pc_parse.specs.Simple.{beginning_of}
 use Rattle.pc_grammar.specs.Statements.{SpellsStmt, if_open, if_else}
 use Rattle.pc_parse.specs.Statements.{Spells, NoElse, StmtTakes, StmtFails, SomeTakes}

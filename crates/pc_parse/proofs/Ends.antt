@@ -6,8 +6,8 @@ use Rattle.pc_grammar.specs.declared.tokens.Token.{Token}
 use Rattle.pc_grammar.specs.declared.expressions.Word.{Word}
 use Rattle.pc_grammar.specs.declared.statements.Stmt.{Stmt}
 use Rattle.pc_grammar.specs.Refusing.{first}
-use Rattle.pc_parse.specs.declared.simple.Beginning.{Beginning}
-use Rattle.pc_parse.specs.declared.simple.Beginning.TheVariants.{Skip as SkipBeginning, Name as NameBeginning, Eot as EotBeginning, Par as ParBeginning, Block as BlockBeginning, If as IfBeginning, While as WhileBeginning, Abort as AbortBeginning, Weak as WeakBeginning, Nothing as NothingBeginning}
+use Rattle.pc_parse.specs.declared.simple.StatementOpening.{StatementOpening}
+use Rattle.pc_parse.specs.declared.simple.StatementOpening.TheVariants.{Skip as SkipBeginning, Name as NameBeginning, Eot as EotBeginning, Par as ParBeginning, Block as BlockBeginning, If as IfBeginning, While as WhileBeginning, Abort as AbortBeginning, Weak as WeakBeginning, Nothing as NothingBeginning}
 use Rattle.pc_parse.specs.Simple.{beginning_of}
 use Rattle.pc_parse.proofs.Plain.{SimpleAfter, simple_after, simple_begins}
 use Rattle.pc_grammar.specs.Statements.{SpellsStmt, simple, block, if_open, if_else, while, abort, weak_abort, SpellsParts, none, more}
@@ -72,7 +72,7 @@ unfolding beginning_of
 is_weak WeakWord is = refl
 is_weak s is = cc
 
-simple_is : (source : List ℕ) (b : Beginning) (t : Token) (i : List Token) (s : Stmt Word) (r : List Token) → SimpleAfter source b t i s r → b ≡ NothingBeginning → ⊥
+simple_is : (source : List ℕ) (b : StatementOpening) (t : Token) (i : List Token) (s : Stmt Word) (r : List Token) → SimpleAfter source b t i s r → b ≡ NothingBeginning → ⊥
 simple_is source SkipBeginning t i s r v is = cc
 simple_is source NameBeginning t i s r v is = cc
 simple_is source EotBeginning t i s r v is = cc

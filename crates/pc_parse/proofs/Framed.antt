@@ -12,7 +12,7 @@ use Rattle.pc_grammar.specs.Refusing.{first}
 use Rattle.pc_parse.specs.Reading.{Comes, Refuses, Always}
 use Rattle.pc_parse.proofs.Behind.{fails_behind, fails_here}
 use Rattle.pc_parse.proofs.Operands.{some_token}
-use Rattle.pc_parse.specs.declared.simple.Beginning.TheVariants.{Nothing as NothingBeginning}
+use Rattle.pc_parse.specs.declared.simple.StatementOpening.TheVariants.{Nothing as NothingBeginning}
 use Rattle.pc_parse.specs.Simple.{beginning_of}
 use Rattle.pc_grammar.specs.Statements.{IsBody, SpellsParts, none as no_parts, more as more_parts}
 use Rattle.pc_parse.specs.Statements.{Closes, AtClose, at_end, at_brace, at_return, PartsTakes, PartsFails}

@@ -8,7 +8,7 @@ use Rattle.pc_grammar.specs.declared.tokens.Sort.TheVariants.{Number, Name, Open
 use Rattle.pc_grammar.specs.declared.tokens.Token.{Token}
 use Rattle.pc_grammar.specs.declared.marks.Pair.{Pair}
 use Rattle.pc_grammar.specs.declared.marks.Pair.TheVariants.{Parentheses, Brackets, Assignment, Result}
-use Rattle.pc_grammar.specs.declared.marks.Opening.TheVariants.{Number as NumberOpening, Name as NameOpening, Unary as UnaryOpening, Parenthesis as ParenthesisOpening}
+use Rattle.pc_grammar.specs.declared.marks.OperandOpening.TheVariants.{Number as NumberOpening, Name as NameOpening, Unary as UnaryOpening, Parenthesis as ParenthesisOpening}
 use Rattle.pc_grammar.specs.Signs.{unary_in, binary_in, level_of, hold_of, opening_of, unary_opening, closes_of}
 use Rattle.pc_grammar.specs.Refusing.{first}
 use Rattle.pc_parse.specs.Expressions.{hold_in, Ends, NoneNext}

@@ -6,7 +6,7 @@ use Rattle.pc_grammar.specs.declared.expressions.Word.{Word}
 use Rattle.pc_grammar.specs.declared.expressions.Expr.{Expr}
 use Rattle.pc_parse.specs.declared.reading.Failure.{Failure}
 use Rattle.pc_parse.specs.declared.reading.Failure.TheVariants.{Broken, Memory}
-use Rattle.pc_grammar.specs.declared.marks.Opening.TheVariants.{Nothing as NothingOpening}
+use Rattle.pc_grammar.specs.declared.marks.OperandOpening.TheVariants.{Nothing as NothingOpening}
 use Rattle.pc_grammar.specs.Signs.{opening_of, unary_in}
 use Rattle.pc_grammar.specs.Refusing.{first}
 use Rattle.pc_parse.specs.Reading.{Comes, Refuses, Always}

@@ -9,8 +9,8 @@ use Rattle.pc_grammar.specs.declared.expressions.Expr.{Expr}
 use Rattle.pc_grammar.specs.declared.expressions.Expr.TheVariants.{Number, Var, Elem, Unary}
 use Rattle.pc_grammar.specs.declared.marks.Pair.{Pair}
 use Rattle.pc_grammar.specs.declared.marks.Pair.TheVariants.{Parentheses, Brackets}
-use Rattle.pc_grammar.specs.declared.marks.Opening.{Opening}
-use Rattle.pc_grammar.specs.declared.marks.Opening.TheVariants.{Number as NumberOpening, Name as NameOpening, Unary as UnaryOpening, Parenthesis as ParenthesisOpening, Nothing as NothingOpening}
+use Rattle.pc_grammar.specs.declared.marks.OperandOpening.{OperandOpening}
+use Rattle.pc_grammar.specs.declared.marks.OperandOpening.TheVariants.{Number as NumberOpening, Name as NameOpening, Unary as UnaryOpening, Parenthesis as ParenthesisOpening, Nothing as NothingOpening}
 use Rattle.pc_parse.specs.declared.reading.Failure.{Failure}
 use Rattle.pc_parse.specs.declared.reading.Failure.TheVariants.{Broken, Memory}
 use Rattle.pc_grammar.specs.Signs.{opening_of}
@@ -154,14 +154,14 @@ fails_behind_inside source room tokens e rest some h at =
 -- ---- no operand
 
 -- with a bracket or an operator an operand begins only where there is room
-abbrev pub CannotBegin : ℕ → Opening → Type 0
+abbrev pub CannotBegin : ℕ → OperandOpening → Type 0
 CannotBegin room (NumberOpening n) = ⊥
 CannotBegin room NameOpening = ⊥
 CannotBegin room (UnaryOpening op) = room ≡ 0
 CannotBegin room ParenthesisOpening = room ≡ 0
 CannotBegin room NothingOpening = Unit {0}
 
-no_operand : (source : List ℕ) (room : ℕ) (o : Opening) (t : Token) (i : List Token) (e : Expr Word) (r : List Token) → CannotBegin room o → OperandAfter source room o t i e r → ⊥
+no_operand : (source : List ℕ) (room : ℕ) (o : OperandOpening) (t : Token) (i : List Token) (e : Expr Word) (r : List Token) → CannotBegin room o → OperandAfter source room o t i e r → ⊥
 no_operand source room (NumberOpening n) t i e r bad v = bad
 no_operand source room NameOpening t i e r bad v = bad
 no_operand source room (UnaryOpening op) t i e r bad v = let a : room ≡ suc v.less = v.deep in omega arith
@@ -201,7 +201,7 @@ fails_beginning source room tokens bad =
 pub fails_empty : (source : List ℕ) (room : ℕ) (tokens : List Token) → tokens ≡ [] → OperandFails source room tokens (length tokens)
 fails_empty source room tokens eq = fails_beginning source room tokens (λ t i h. let a : [] ≡ t ∷ i = sym eq ∙ h in cc)
 
-fails_operand : (source : List ℕ) (room : ℕ) (o : Opening) (tokens : List Token) (t : Token) (i : List Token) → tokens ≡ t ∷ i → opening_of t.sort ≡ o → CannotBegin room o → OperandFails source room tokens (length tokens)
+fails_operand : (source : List ℕ) (room : ℕ) (o : OperandOpening) (tokens : List Token) (t : Token) (i : List Token) → tokens ≡ t ∷ i → opening_of t.sort ≡ o → CannotBegin room o → OperandFails source room tokens (length tokens)
 fails_operand source room o tokens t i eq is bad = fails_beginning source room tokens (λ t' i' h.
     let a : t ∷ i ≡ t' ∷ i' = sym eq ∙ h in
     let b : t ≡ t' = cc in

@@ -13,8 +13,8 @@ use Rattle.pc_parse.specs.Reading.{Comes, Refuses, Always}
 use Rattle.pc_grammar.specs.Expressions.{word_at}
 use Rattle.pc_parse.proofs.Behind.{fails_behind, fails_here}
 use Rattle.pc_parse.proofs.Operands.{some_token}
-use Rattle.pc_parse.specs.declared.simple.Beginning.{Beginning}
-use Rattle.pc_parse.specs.declared.simple.Beginning.TheVariants.{Skip as SkipBeginning, Name as NameBeginning, Eot as EotBeginning, Par as ParBeginning}
+use Rattle.pc_parse.specs.declared.simple.StatementOpening.{StatementOpening}
+use Rattle.pc_parse.specs.declared.simple.StatementOpening.TheVariants.{Skip as SkipBeginning, Name as NameBeginning, Eot as EotBeginning, Par as ParBeginning}
 use Rattle.pc_grammar.specs.Lists.{SpellsListed, SpellsName}
 use Rattle.pc_parse.specs.Lists.{ListedTakes, ListedFails, AfterName}
 use Rattle.pc_grammar.specs.Simple.{SpellsNamed, SpellsSimple, skip, named, eot, par}
@@ -83,14 +83,14 @@ pub record ParAfter (source : List ℕ) (t : Token) (i : List Token) (s : Stmt W
   pub tree : s ≡ Par t.span all
   pub whole : i ≡ w ++ last ∷ rest
 
-abbrev pub SimpleAfter : List ℕ → Beginning → Token → List Token → Stmt Word → List Token → Type 0
+abbrev pub SimpleAfter : List ℕ → StatementOpening → Token → List Token → Stmt Word → List Token → Type 0
 SimpleAfter source SkipBeginning t i s rest = (i ≡ rest) × (s ≡ Skip)
 SimpleAfter source NameBeginning t i s rest = NamedAfter source t i s rest
 SimpleAfter source EotBeginning t i s rest = EotAfter t i s rest
 SimpleAfter source ParBeginning t i s rest = ParAfter source t i s rest
 SimpleAfter source _ t i s rest = ⊥
 
-at_token : (source : List ℕ) (b : Beginning) (t t' : Token) (i i' : List Token) (s : Stmt Word) (rest : List Token) → beginning_of t'.sort ≡ b → t' ∷ i' ≡ t ∷ i →
+at_token : (source : List ℕ) (b : StatementOpening) (t t' : Token) (i i' : List Token) (s : Stmt Word) (rest : List Token) → beginning_of t'.sort ≡ b → t' ∷ i' ≡ t ∷ i →
     SimpleAfter source b t' i' s rest → SimpleAfter source (beginning_of t.sort) t i s rest
 at_token source b t t' i i' s rest is eq h =
     let one : t' ≡ t = cc in
@@ -105,7 +105,7 @@ simple_after {source = source} (par {w = w} {all = all} t' z is closes d) t i re
     at_token source ParBeginning t t' i ((w ++ z ∷ []) ++ rest) (Par t'.span all) rest (ap beginning_of is ∙ par_is) eq
     (record { w = w; all = all; last = z; closes = closes; inner = d; tree = refl; whole = append_assoc w (z ∷ []) rest })
 
-pub simple_as : {source : List ℕ} {w : List Token} {s : Stmt Word} → SpellsSimple source w s → (b : Beginning) (t : Token) (i rest : List Token) → beginning_of t.sort ≡ b → w ++ rest ≡ t ∷ i → SimpleAfter source b t i s rest
+pub simple_as : {source : List ℕ} {w : List Token} {s : Stmt Word} → SpellsSimple source w s → (b : StatementOpening) (t : Token) (i rest : List Token) → beginning_of t.sort ≡ b → w ++ rest ≡ t ∷ i → SimpleAfter source b t i s rest
 simple_as {source = source} {s = s} d b t i rest is eq = subst (λ x. SimpleAfter source x t i s rest) is (simple_after d t i rest eq)
 
 pub unique_simple : {source : List ℕ} {w : List Token} {s : Stmt Word} → SpellsSimple source w s → (w' : List Token) (s' : Stmt Word) (r r' : List Token) → SpellsSimple source w' s' → w ++ r ≡ w' ++ r' → (r ≡ r') × (s ≡ s')
@@ -180,14 +180,14 @@ par_not_closed source tokens t i all r eq is h other =
     other (sym same ∙ ap first u.0 ∙ ap Some v.closes))
 
 -- what no statement without statements in it begins with
-abbrev pub NotSimple : Beginning → Type 0
+abbrev pub NotSimple : StatementOpening → Type 0
 NotSimple SkipBeginning = ⊥
 NotSimple NameBeginning = ⊥
 NotSimple EotBeginning = ⊥
 NotSimple ParBeginning = ⊥
 NotSimple _ = Unit {0}
 
-no_simple : (source : List ℕ) (b : Beginning) (t : Token) (i : List Token) (s : Stmt Word) (r : List Token) → NotSimple b → SimpleAfter source b t i s r → ⊥
+no_simple : (source : List ℕ) (b : StatementOpening) (t : Token) (i : List Token) (s : Stmt Word) (r : List Token) → NotSimple b → SimpleAfter source b t i s r → ⊥
 no_simple source SkipBeginning t i s r bad v = bad
 no_simple source NameBeginning t i s r bad v = bad
 no_simple source EotBeginning t i s r bad v = bad
@@ -215,14 +215,14 @@ fails_beginning source tokens bad =
 pub fails_empty : (source : List ℕ) (tokens : List Token) → tokens ≡ [] → SimpleFails source tokens (length tokens)
 fails_empty source tokens eq = fails_beginning source tokens (λ t i h. let a : [] ≡ t ∷ i = sym eq ∙ h in cc)
 
-not_simple : (b : Beginning) → (b ≡ SkipBeginning → ⊥) → (b ≡ NameBeginning → ⊥) → (b ≡ EotBeginning → ⊥) → (b ≡ ParBeginning → ⊥) → NotSimple b
+not_simple : (b : StatementOpening) → (b ≡ SkipBeginning → ⊥) → (b ≡ NameBeginning → ⊥) → (b ≡ EotBeginning → ⊥) → (b ≡ ParBeginning → ⊥) → NotSimple b
 not_simple SkipBeginning a b c d = a refl
 not_simple NameBeginning a b c d = b refl
 not_simple EotBeginning a b c d = c refl
 not_simple ParBeginning a b c d = d refl
 not_simple _ a b c d = tt
 
-pub fails_simple : (source : List ℕ) (b : Beginning) (tokens : List Token) (t : Token) (i : List Token) → tokens ≡ t ∷ i → b ≡ beginning_of t.sort → (b ≡ SkipBeginning → ⊥) → (b ≡ NameBeginning → ⊥) → (b ≡ EotBeginning → ⊥) → (b ≡ ParBeginning → ⊥) → SimpleFails source tokens (length tokens)
+pub fails_simple : (source : List ℕ) (b : StatementOpening) (tokens : List Token) (t : Token) (i : List Token) → tokens ≡ t ∷ i → b ≡ beginning_of t.sort → (b ≡ SkipBeginning → ⊥) → (b ≡ NameBeginning → ⊥) → (b ≡ EotBeginning → ⊥) → (b ≡ ParBeginning → ⊥) → SimpleFails source tokens (length tokens)
 fails_simple source b tokens t i eq is one two three four = fails_beginning source tokens (λ t' i' h.
     let a : t ∷ i ≡ t' ∷ i' = sym eq ∙ h in
     let at : t ≡ t' = cc in

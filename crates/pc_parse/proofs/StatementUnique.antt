@@ -10,8 +10,8 @@ use Rattle.pc_grammar.specs.declared.marks.Pair.TheVariants.{Parentheses}
 use Rattle.pc_grammar.specs.Refusing.{first}
 use Rattle.pc_grammar.specs.Expressions.{SpellsBetween}
 use Rattle.pc_parse.proofs.Unique.{unique_between}
-use Rattle.pc_parse.specs.declared.simple.Beginning.{Beginning}
-use Rattle.pc_parse.specs.declared.simple.Beginning.TheVariants.{Skip as SkipBeginning, Name as NameBeginning, Eot as EotBeginning, Par as ParBeginning, Block as BlockBeginning, If as IfBeginning, While as WhileBeginning, Abort as AbortBeginning, Weak as WeakBeginning, Nothing as NothingBeginning}
+use Rattle.pc_parse.specs.declared.simple.StatementOpening.{StatementOpening}
+use Rattle.pc_parse.specs.declared.simple.StatementOpening.TheVariants.{Skip as SkipBeginning, Name as NameBeginning, Eot as EotBeginning, Par as ParBeginning, Block as BlockBeginning, If as IfBeginning, While as WhileBeginning, Abort as AbortBeginning, Weak as WeakBeginning, Nothing as NothingBeginning}
 use Rattle.pc_grammar.specs.Settings.{SpellsLoop, SpellsTest}
 use Rattle.pc_parse.specs.Settings.{NoHash}
 use Rattle.pc_grammar.specs.Simple.{SpellsSimple}
@@ -93,7 +93,7 @@ pub record WeakAfter (source : List ℕ) (room : ℕ) (t : Token) (i : List Toke
 pub record SimpleIs (source : List ℕ) (t : Token) (i : List Token) (p : Bool × Stmt Word) (rest : List Token) : Type 0 where
   pub takes : SimpleTakes source (t ∷ i) p.1 rest
 
-abbrev pub StmtAfter : List ℕ → ℕ → Beginning → Token → List Token → Bool × Stmt Word → List Token → Type 0
+abbrev pub StmtAfter : List ℕ → ℕ → StatementOpening → Token → List Token → Bool × Stmt Word → List Token → Type 0
 StmtAfter source room BlockBeginning t i p rest = BlockAfter source room i p rest
 StmtAfter source room IfBeginning t i p rest = IfAfter source room i p rest
 StmtAfter source room WhileBeginning t i p rest = WhileAfter source room t i p rest
@@ -102,14 +102,14 @@ StmtAfter source room WeakBeginning t i p rest = WeakAfter source room t i p res
 StmtAfter source room NothingBeginning t i p rest = ⊥
 StmtAfter source room _ t i p rest = SimpleIs source t i p rest
 
-at_token : (source : List ℕ) (room : ℕ) (b : Beginning) (t t' : Token) (i i' : List Token) (p : Bool × Stmt Word) (rest : List Token) → beginning_of t'.sort ≡ b → t' ∷ i' ≡ t ∷ i →
+at_token : (source : List ℕ) (room : ℕ) (b : StatementOpening) (t t' : Token) (i i' : List Token) (p : Bool × Stmt Word) (rest : List Token) → beginning_of t'.sort ≡ b → t' ∷ i' ≡ t ∷ i →
     StmtAfter source room b t' i' p rest → StmtAfter source room (beginning_of t.sort) t i p rest
 at_token source room b t t' i i' p rest is eq h =
     let one : t' ≡ t = cc in
     let two : i' ≡ i = cc in
     subst (λ x. StmtAfter source room (beginning_of x.sort) x i p rest) one (subst (λ x. StmtAfter source room x t' i p rest) (sym is) (subst (λ x. StmtAfter source room b t' x p rest) two h))
 
-as_simple : (source : List ℕ) (room : ℕ) (b : Beginning) (t : Token) (i : List Token) (dangling : Bool) (s : Stmt Word) (rest : List Token) → SimpleAfter source b t i s rest → SimpleTakes source (t ∷ i) s rest → StmtAfter source room b t i (dangling, s) rest
+as_simple : (source : List ℕ) (room : ℕ) (b : StatementOpening) (t : Token) (i : List Token) (dangling : Bool) (s : Stmt Word) (rest : List Token) → SimpleAfter source b t i s rest → SimpleTakes source (t ∷ i) s rest → StmtAfter source room b t i (dangling, s) rest
 as_simple source room SkipBeginning t i dangling s rest v h = record { takes = h }
 as_simple source room NameBeginning t i dangling s rest v h = record { takes = h }
 as_simple source room EotBeginning t i dangling s rest v h = record { takes = h }
@@ -162,7 +162,7 @@ stmt_after {source = source} (weak_abort {room = room} {w = w} {q = q} t' a word
     at_token source (suc room) WeakBeginning t t' i (a ∷ (w ++ rest)) (false, Abort t'.span true q.0 q.1) rest (ap beginning_of word ∙ weak_begins) eq
     (record { a = a; is_abort = is_abort; j = w ++ rest; behind = record { less = room; deep = refl; w = w; q = q; inner = d; tree = refl; whole = refl }; whole = refl })
 
-pub stmt_as : {source : List ℕ} {room : ℕ} {dangling : Bool} {w : List Token} {s : Stmt Word} → SpellsStmt source room dangling w s → (b : Beginning) (t : Token) (i rest : List Token) → beginning_of t.sort ≡ b → w ++ rest ≡ t ∷ i → StmtAfter source room b t i (dangling, s) rest
+pub stmt_as : {source : List ℕ} {room : ℕ} {dangling : Bool} {w : List Token} {s : Stmt Word} → SpellsStmt source room dangling w s → (b : StatementOpening) (t : Token) (i rest : List Token) → beginning_of t.sort ≡ b → w ++ rest ≡ t ∷ i → StmtAfter source room b t i (dangling, s) rest
 stmt_as {source = source} {room = room} {dangling = dangling} {s = s} d b t i rest is eq = subst (λ x. StmtAfter source room x t i (dangling, s) rest) is (stmt_after d t i rest eq)
 
 -- ---- an abort's body and condition
@@ -231,7 +231,7 @@ pub no_hash : {source : List ℕ} {room : ℕ} {dangling : Bool} {w : List Token
 no_hash d r p unbounded h = not_start d r Hash h hash_begins
 
 -- where a statement without statements in it can be read, it is one
-plain_is : (source : List ℕ) (room : ℕ) (b : Beginning) (t : Token) (i : List Token) (p : Bool × Stmt Word) (s : Stmt Word) (rest r : List Token) → SimpleAfter source b t i s r → StmtAfter source room b t i p rest → SimpleTakes source (t ∷ i) p.1 rest
+plain_is : (source : List ℕ) (room : ℕ) (b : StatementOpening) (t : Token) (i : List Token) (p : Bool × Stmt Word) (s : Stmt Word) (rest r : List Token) → SimpleAfter source b t i s r → StmtAfter source room b t i p rest → SimpleTakes source (t ∷ i) p.1 rest
 plain_is source room SkipBeginning t i p s rest r v k = k.takes
 plain_is source room NameBeginning t i p s rest r v k = k.takes
 plain_is source room EotBeginning t i p s rest r v k = k.takes

@@ -14,8 +14,8 @@ use Rattle.pc_grammar.specs.Refusing.{first, IsViable}
 use Rattle.pc_parse.specs.Reading.{Comes, Refuses, Always}
 use Rattle.pc_parse.proofs.Behind.{fails_behind, fails_here}
 use Rattle.pc_parse.proofs.Operands.{some_token}
-use Rattle.pc_parse.specs.declared.simple.Beginning.{Beginning}
-use Rattle.pc_parse.specs.declared.simple.Beginning.TheVariants.{Block as BlockBeginning, If as IfBeginning, While as WhileBeginning, Abort as AbortBeginning, Weak as WeakBeginning, Nothing as NothingBeginning}
+use Rattle.pc_parse.specs.declared.simple.StatementOpening.{StatementOpening}
+use Rattle.pc_parse.specs.declared.simple.StatementOpening.TheVariants.{Block as BlockBeginning, If as IfBeginning, While as WhileBeginning, Abort as AbortBeginning, Weak as WeakBeginning, Nothing as NothingBeginning}
 use Rattle.pc_grammar.specs.Settings.{SpellsLoop, SpellsTest}
 use Rattle.pc_parse.specs.Settings.{NoHash, LoopTakes, LoopFails, TestTakes, TestFails}
 use Rattle.pc_grammar.specs.Simple.{SpellsSimple, skip}
@@ -45,14 +45,14 @@ pub plain_takes : (source : List ℕ) (room : ℕ) (tokens : List Token) (s : St
 plain_takes source room tokens s rest h = record { dangling = false; takes = record { used = h.used; whole = h.whole; spelled = simple h.spelled; stops = closed_stops s rest } }
 
 -- what begins no statement with statements in it
-pub record IsPlain (b : Beginning) : Type 0 where
+pub record IsPlain (b : StatementOpening) : Type 0 where
   pub not_block : b ≡ BlockBeginning → ⊥
   pub not_if : b ≡ IfBeginning → ⊥
   pub not_while : b ≡ WhileBeginning → ⊥
   pub not_abort : b ≡ AbortBeginning → ⊥
   pub not_weak : b ≡ WeakBeginning → ⊥
 
-plain_of : (source : List ℕ) (room : ℕ) (b : Beginning) (t : Token) (i : List Token) (p : Bool × Stmt Word) (rest : List Token) → IsPlain b → StmtAfter source room b t i p rest → SimpleTakes source (t ∷ i) p.1 rest
+plain_of : (source : List ℕ) (room : ℕ) (b : StatementOpening) (t : Token) (i : List Token) (p : Bool × Stmt Word) (rest : List Token) → IsPlain b → StmtAfter source room b t i p rest → SimpleTakes source (t ∷ i) p.1 rest
 plain_of source room BlockBeginning t i p rest plain v = absurd (plain.not_block refl)
 plain_of source room IfBeginning t i p rest plain v = absurd (plain.not_if refl)
 plain_of source room WhileBeginning t i p rest plain v = absurd (plain.not_while refl)
@@ -67,7 +67,7 @@ plain_down source room s (x ∷ xs) c r plain at k =
     let here : s ≡ x.sort = let p : Some x.sort ≡ Some s = at in cc in
     plain_of source room (beginning_of x.sort) x xs c r (subst (λ y. IsPlain (beginning_of y)) here plain) (stmt_after k.spelled x xs r (sym k.whole))
 
-pub plain_refuses : (source : List ℕ) (room : ℕ) (b : Beginning) (tokens : List Token) (t : Token) (i : List Token) (f : Failure) → tokens ≡ t ∷ i → b ≡ beginning_of t.sort → IsPlain b → Refuses (SimpleFails source) tokens f → Refuses (StmtFails source room) tokens f
+pub plain_refuses : (source : List ℕ) (room : ℕ) (b : StatementOpening) (tokens : List Token) (t : Token) (i : List Token) (f : Failure) → tokens ≡ t ∷ i → b ≡ beginning_of t.sort → IsPlain b → Refuses (SimpleFails source) tokens f → Refuses (StmtFails source room) tokens f
 plain_refuses source room b tokens t i (Broken n) eq is plain f =
     fails_behind (SpellsSimple source) Always (Spells source room) NoElse [] tokens tokens n refl f
     (λ v s d. complete source room v (false, s) (simple d))
@@ -120,7 +120,7 @@ pub ruleset stmt_steps = (plain_takes, fails_empty, takes_block, block_refuses, 
 
 -- ---- a word that begins a statement, where the limit is reached
 
-pub too_deep : (source : List ℕ) (room : ℕ) (b : Beginning) (t : Token) (i : List Token) → beginning_of t.sort ≡ b → ((x : Token) (others : List Token) (c : Bool × Stmt Word) (r : List Token) → StmtAfter source room b x others c r → ⊥) → StmtFails source room (t ∷ i) (length i + 1)
+pub too_deep : (source : List ℕ) (room : ℕ) (b : StatementOpening) (t : Token) (i : List Token) → beginning_of t.sort ≡ b → ((x : Token) (others : List Token) (c : Bool × Stmt Word) (r : List Token) → StmtAfter source room b x others c r → ⊥) → StmtFails source room (t ∷ i) (length i + 1)
 too_deep source room b t i is never =
     let at : length (t ∷ i) ≡ length i + 1 = omega arith in
     subst (λ n. StmtFails source room (t ∷ i) n) at

@@ -8,8 +8,8 @@ use Rattle.pc_grammar.specs.declared.expressions.Expr.{Expr}
 use Rattle.pc_grammar.specs.declared.expressions.Expr.TheVariants.{Number, Var, Elem, Unary}
 use Rattle.pc_grammar.specs.declared.marks.Pair.{Pair}
 use Rattle.pc_grammar.specs.declared.marks.Pair.TheVariants.{Parentheses, Brackets}
-use Rattle.pc_grammar.specs.declared.marks.Opening.{Opening}
-use Rattle.pc_grammar.specs.declared.marks.Opening.TheVariants.{Number as NumberOpening, Name as NameOpening, Unary as UnaryOpening, Parenthesis as ParenthesisOpening, Nothing as NothingOpening}
+use Rattle.pc_grammar.specs.declared.marks.OperandOpening.{OperandOpening}
+use Rattle.pc_grammar.specs.declared.marks.OperandOpening.TheVariants.{Number as NumberOpening, Name as NameOpening, Unary as UnaryOpening, Parenthesis as ParenthesisOpening, Nothing as NothingOpening}
 use Rattle.pc_grammar.specs.Signs.{binary_in, level_of, opening_of, opens_of, closes_of}
 use Rattle.pc_grammar.specs.Refusing.{first}
 use Rattle.pc_grammar.specs.Expressions.{word_at, grown, SpellsOperand, number, name, element, unary, inside, SpellsBetween, between, SpellsLevel, operand, chain, SpellsRest, none, more, OneTree}
@@ -64,14 +64,14 @@ pub record InsideAfter (source : List ℕ) (room : ℕ) (t : Token) (i : List To
   pub whole : t ∷ i ≡ w ++ rest
 
 -- an operand before `rest` in the input t ∷ i
-abbrev pub OperandAfter : List ℕ → ℕ → Opening → Token → List Token → Expr Word → List Token → Type 0
+abbrev pub OperandAfter : List ℕ → ℕ → OperandOpening → Token → List Token → Expr Word → List Token → Type 0
 OperandAfter source room (NumberOpening n) t i e rest = (i ≡ rest) × (e ≡ Number n)
 OperandAfter source room NameOpening t i e rest = ((i ≡ rest) × (e ≡ Var (word_at source t))) ⊎ ElementAfter source room t i e rest
 OperandAfter source room (UnaryOpening op) t i e rest = UnaryAfter source room op i e rest
 OperandAfter source room ParenthesisOpening t i e rest = InsideAfter source room t i e rest
 OperandAfter source room NothingOpening t i e rest = ⊥
 
-at_token : (source : List ℕ) (room : ℕ) (o : Opening) (t t' : Token) (i i' : List Token) (e : Expr Word) (rest : List Token) → opening_of t'.sort ≡ o → t' ∷ i' ≡ t ∷ i →
+at_token : (source : List ℕ) (room : ℕ) (o : OperandOpening) (t t' : Token) (i i' : List Token) (e : Expr Word) (rest : List Token) → opening_of t'.sort ≡ o → t' ∷ i' ≡ t ∷ i →
     OperandAfter source room o t' i' e rest → OperandAfter source room (opening_of t.sort) t i e rest
 at_token source room o t t' i i' e rest is eq h =
     let a : t' ≡ t = cc in
@@ -95,7 +95,7 @@ operand_after (unary {source = source} {room = room} {w = w} {e = e} t' op is d)
 operand_after (inside d) t i rest eq = inside_after d t i rest eq
 
 -- the same where it is known what the token begins
-pub operand_as : {source : List ℕ} {room : ℕ} {w : List Token} {e : Expr Word} → SpellsOperand source room w e → (o : Opening) (t : Token) (i rest : List Token) → opening_of t.sort ≡ o → w ++ rest ≡ t ∷ i → OperandAfter source room o t i e rest
+pub operand_as : {source : List ℕ} {room : ℕ} {w : List Token} {e : Expr Word} → SpellsOperand source room w e → (o : OperandOpening) (t : Token) (i rest : List Token) → opening_of t.sort ≡ o → w ++ rest ≡ t ∷ i → OperandAfter source room o t i e rest
 operand_as {source = source} {room = room} {e = e} d o t i rest is eq = subst (λ x. OperandAfter source room x t i e rest) is (operand_after d t i rest eq)
 
 -- ---- a chain

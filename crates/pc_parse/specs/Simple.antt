@@ -6,12 +6,12 @@ use Rattle.pc_grammar.specs.declared.tokens.Token.{Token}
 use Rattle.pc_grammar.specs.declared.expressions.Word.{Word}
 use Rattle.pc_grammar.specs.declared.statements.Stmt.{Stmt}
 use Rattle.pc_parse.specs.Reading.{Takes, Fails, Always}
-use Rattle.pc_parse.specs.declared.simple.Beginning.{Beginning}
-use Rattle.pc_parse.specs.declared.simple.Beginning.TheVariants.{Skip as SkipBeginning, Name as NameBeginning, Eot as EotBeginning, Par as ParBeginning, Block as BlockBeginning, If as IfBeginning, While as WhileBeginning, Abort as AbortBeginning, Weak as WeakBeginning, Nothing as NothingBeginning}
+use Rattle.pc_parse.specs.declared.simple.StatementOpening.{StatementOpening}
+use Rattle.pc_parse.specs.declared.simple.StatementOpening.TheVariants.{Skip as SkipBeginning, Name as NameBeginning, Eot as EotBeginning, Par as ParBeginning, Block as BlockBeginning, If as IfBeginning, While as WhileBeginning, Abort as AbortBeginning, Weak as WeakBeginning, Nothing as NothingBeginning}
 use Rattle.pc_grammar.specs.Simple.{SpellsNamed, SpellsSimple}
 
 -- what a statement begins with
-unfoldable pub beginning_of : Sort → Beginning
+unfoldable pub beginning_of : Sort → StatementOpening
 beginning_of Semicolon = SkipBeginning
 beginning_of Name = NameBeginning
 beginning_of EotWord = EotBeginning

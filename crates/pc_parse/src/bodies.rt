@@ -7,7 +7,7 @@ ghost use Rattle.pc_parse.specs.Statements.{Closes, SomeTakes, StmtFails, PartsT
 use crate::expressions::between;
 use crate::reading::{Failure, after, comes, split};
 use crate::settings::{abort_test, loop_head};
-use crate::simple::{Beginning, simple_statement, statement_beginning};
+use crate::simple::{StatementOpening, simple_statement, statement_beginning};
 use pc_grammar::{Expr, Mark, Pair, Sort, Stmt, Token, Word};
 use pt_base::{MOST_EXPRESSION_LEVELS, Text};
 use sqlite_items::{Boxed, Items};
@@ -43,17 +43,17 @@ fn statement<'a>(
         return Err(Failure::Broken(tokens.len()));
     };
     match statement_beginning(token.sort) {
-        Beginning::Block => {
+        StatementOpening::Block => {
             let (all, rest) = statements(alloc, source, rest, room)?;
             let Some(last) = after(rest, Mark::CloseBrace) else {
                 return Err(Failure::Broken(rest.len()));
             };
             Ok((Stmt::Block(all), last))
         }
-        Beginning::If => branch(alloc, source, token, rest, room),
-        Beginning::While => repetition(alloc, source, token, rest, room),
-        Beginning::Abort => strong_abort(alloc, source, token, rest, room),
-        Beginning::Weak => weak_abort(alloc, source, token, rest, room),
+        StatementOpening::If => branch(alloc, source, token, rest, room),
+        StatementOpening::While => repetition(alloc, source, token, rest, room),
+        StatementOpening::Abort => strong_abort(alloc, source, token, rest, room),
+        StatementOpening::Weak => weak_abort(alloc, source, token, rest, room),
         _ => simple_statement(alloc, source, tokens),
     }
 }

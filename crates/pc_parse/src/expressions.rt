@@ -6,8 +6,8 @@ ghost use Rattle.pc_parse.specs.Expressions.{NoneNext, ComesNext, OperandTakes, 
 
 use crate::reading::{Failure, after, comes, split, word};
 use pc_grammar::{
-    Expr, LEVELS, Mark, Opening, Pair, Sort, Token, Word, binary_operator, closes, level_number,
-    opens, operand_opening,
+    Expr, LEVELS, Mark, OperandOpening, Pair, Sort, Token, Word, binary_operator, closes,
+    level_number, opens, operand_opening,
 };
 use pt_base::{BinOp, MOST_EXPRESSION_LEVELS, Text};
 use sqlite_items::{Boxed, Items};
@@ -111,26 +111,26 @@ fn operand<'a>(
         return Err(Failure::Broken(tokens.len()));
     };
     match operand_opening(token.sort) {
-        Opening::Number(value) => {
+        OperandOpening::Number(value) => {
             if comes(rest, Mark::OpenBracket) {
                 return Err(Failure::Broken(rest.len()));
             }
             Ok((Expr::Number(value), rest))
         }
-        Opening::Name => {
+        OperandOpening::Name => {
             if comes(rest, Mark::OpenBracket) {
                 return element(alloc, source, token, rest, room);
             }
             Ok((Expr::Var(word(alloc, source, token)?), rest))
         }
-        Opening::Unary(op) => {
+        OperandOpening::Unary(op) => {
             if room == 0 {
                 return Err(Failure::Broken(tokens.len()));
             }
             let (e, last) = operand(alloc, source, rest, room - 1)?;
             Ok((Expr::Unary(op, Boxed::new(alloc, e)?), last))
         }
-        Opening::Parenthesis => {
+        OperandOpening::Parenthesis => {
             if room == 0 {
                 return Err(Failure::Broken(tokens.len()));
             }
@@ -140,7 +140,7 @@ fn operand<'a>(
             }
             Ok((e, last))
         }
-        Opening::Nothing => Err(Failure::Broken(tokens.len())),
+        OperandOpening::Nothing => Err(Failure::Broken(tokens.len())),
     }
 }
 

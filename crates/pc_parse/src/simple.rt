@@ -12,7 +12,7 @@ use std::alloc::Global;
 
 /// What a statement begins with.
 #[derive(Clone, Copy)]
-pub enum Beginning {
+pub enum StatementOpening {
     Skip,
     Name,
     Eot,
@@ -27,20 +27,20 @@ pub enum Beginning {
 
 /// What a statement is that begins with a token of this sort.
 #[tactic(auto, unfolding(crate::specs::Simple::beginning_of))]
-pub fn statement_beginning(sort: Sort) -> Beginning
+pub fn statement_beginning(sort: Sort) -> StatementOpening
     ensures { result ≡ beginning_of sort }
 {
     match sort {
-        Sort::Semicolon => Beginning::Skip,
-        Sort::Name => Beginning::Name,
-        Sort::EotWord => Beginning::Eot,
-        Sort::ParWord => Beginning::Par,
-        Sort::OpenBrace => Beginning::Block,
-        Sort::IfWord => Beginning::If,
-        Sort::WhileWord => Beginning::While,
-        Sort::AbortWord => Beginning::Abort,
-        Sort::WeakWord => Beginning::Weak,
-        _ => Beginning::Nothing,
+        Sort::Semicolon => StatementOpening::Skip,
+        Sort::Name => StatementOpening::Name,
+        Sort::EotWord => StatementOpening::Eot,
+        Sort::ParWord => StatementOpening::Par,
+        Sort::OpenBrace => StatementOpening::Block,
+        Sort::IfWord => StatementOpening::If,
+        Sort::WhileWord => StatementOpening::While,
+        Sort::AbortWord => StatementOpening::Abort,
+        Sort::WeakWord => StatementOpening::Weak,
+        _ => StatementOpening::Nothing,
     }
 }
 
@@ -96,18 +96,18 @@ pub fn simple_statement<'a>(
         return Err(Failure::Broken(tokens.len()));
     };
     match statement_beginning(token.sort) {
-        Beginning::Skip => Ok((Stmt::Skip, rest)),
-        Beginning::Name => {
+        StatementOpening::Skip => Ok((Stmt::Skip, rest)),
+        StatementOpening::Name => {
             let name = word(alloc, source, token)?;
             named(alloc, source, name, rest)
         }
-        Beginning::Eot => {
+        StatementOpening::Eot => {
             let Some(last) = after(rest, Mark::Semicolon) else {
                 return Err(Failure::Broken(rest.len()));
             };
             Ok((Stmt::Eot(token.span), last))
         }
-        Beginning::Par => {
+        StatementOpening::Par => {
             let (threads, rest) = names(alloc, source, rest)?;
             let Some(last) = after(rest, Mark::Semicolon) else {
                 return Err(Failure::Broken(rest.len()));

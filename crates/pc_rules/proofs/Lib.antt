@@ -5,6 +5,6 @@ pub mod OverThreads
 pub mod Tall
 pub mod Walks
 pub mod Counts
-pub mod Verdicts
+pub mod VerdictFacts
 mod Phases
 pub mod Readings

@@ -5,9 +5,9 @@
 use pretc_top::pretc;
 use pt_base::{Memory, Text};
 use pt_outside::{HostShelf, HostSink, HostSource, Sink};
-use std::io;
 use std::alloc::Global;
 use std::env::FillError;
+use std::io;
 use std::process::ExitCode;
 use std::rt::Env;
 

@@ -1,7 +1,7 @@
+use super::*;
 use pt_base::{Text, put_number_then};
 use std::alloc::Global;
 use std::test::*;
-use super::*;
 
 const COUNTER: &[u8] =
     b"ARPRET 1\ncode 5\ne8600000\n30630001\nf8600004\nfc200000\nb800fff0\nmemory 2\n0\n0\ninputs 1\n0\noutputs 1\n1\nslots 1\n0\naborts 0\npauses 1\n3 0 0\nforks 0\n";

@@ -4,11 +4,11 @@ ghost use Rattle.pt_outside.specs.Files.{KeepsFiles, Holds, Lacks, Stores, Tears
 
 use crate::traits::{Shelf, ShelfFault, StoreFault};
 use pt_base::Text;
-use std::{fs, io};
 use std::alloc::Global;
 use std::io::Read;
 use std::marker::Model;
 use std::rt::Files;
+use std::{fs, io};
 
 /// A shelf over the files of the system. It doesn't tell what they hold.
 #[derive(Drop)]

@@ -1,5 +1,5 @@
-use crate::{HostShelf, HostSink, HostSource};
 use crate::traits::{Shelf, ShelfFault, Sink, Source, StoreFault};
+use crate::{HostShelf, HostSink, HostSource};
 use pt_base::Text;
 use std::fs;
 use std::test::Fail;

@@ -8,8 +8,8 @@ use pt_image::{Image, Point};
 use std::alloc::Global;
 use tk_cert::State;
 use tk_paths::{
-    Fault, Side, abort_at, number, or_zero, pair_at, paused, resumed_ends, resumed_paused, value_at,
-    waited,
+    Fault, Side, abort_at, number, or_zero, pair_at, paused, resumed_ends, resumed_paused,
+    value_at, waited,
 };
 
 /// The most slots of an image: so deep do groups lie in one another at most.

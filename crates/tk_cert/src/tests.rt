@@ -1,7 +1,7 @@
+use super::*;
 use pt_base::Text;
 use std::alloc::Global;
 use std::test::*;
-use super::*;
 
 const COUNTER: &[u8] =
     b"PRETCERT 1\nbound 14\nat 5\nT 0 0 0 10 -\nT 0 0 0 9 -\nT 0 0 0 8 -\nT 0 0 0 7 -\nT 0 0 0 11 -\nloops 0\nslots 1\n11 -\nwalk 1\np 3\nchoices 0\n\n";

@@ -16,7 +16,9 @@ use crate::units::{jump_lines, jumping, put_line, test_lines, unit_lines};
 use mb_isa::{Class, Costs};
 use pt_image::Image;
 use std::alloc::Global;
-use tk_paths::{Fault, Kind, Levels, Made, Region, Section, after, branched, in_loop, product, sum};
+use tk_paths::{
+    Fault, Kind, Levels, Made, Region, Section, after, branched, in_loop, product, sum,
+};
 
 // The numbers of a branch.
 #[tactic(auto, using(crate::proofs::Tests::branching_is))]

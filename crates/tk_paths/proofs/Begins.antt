@@ -5,7 +5,7 @@ use Rattle.std.proofs.lemmas.Option.{none-some, same_Some}
 use Rattle.mb_pfu.specs.declared.parts.Watch.{Watch}
 use Rattle.mb_pfu.specs.Tree.{Running, Pausing, Finished, Tree, Group, Leaf, Waits, no_more, member, size, has_ended, all_ended, each_member, tests_begun}
 use Rattle.mb_pfu.specs.Rows.{renewed, or_else}
-use Rattle.tk_paths.proofs.Slots.{first_cond, next_cond, next_cond_among}
+use Rattle.tk_paths.proofs.SlotFacts.{first_cond, next_cond, next_cond_among}
 use Rattle.tk_paths.specs.declared.word.Word.{Word}
 use Rattle.tk_paths.specs.declared.word.Word.TheVariants.{Fork}
 use Rattle.tk_paths.proofs.Inner.{Image, stack, AreListed, IsLoose, AreLoose}

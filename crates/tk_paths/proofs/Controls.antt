@@ -24,7 +24,7 @@ use Rattle.mb_isa.specs.Control.{Control, start_in, turns_from, turns_on, wakes,
 use Rattle.mb_isa.specs.Words as plans
 use Rattle.mb_isa.specs.Words.{Plan, Rest, Refuse, Go, Work, Conclude}
 use Rattle.tk_cert.specs.declared.cert.CertParts.{CertParts}
-use Rattle.tk_paths.proofs.Slots.{next_cond}
+use Rattle.tk_paths.proofs.SlotFacts.{next_cond}
 use Rattle.tk_paths.proofs.Inner.{Image, State, Phase, IsSound, test_next, test_at, turn_at}
 use Rattle.tk_paths.proofs.Inner as machine
 use Rattle.tk_paths.proofs.Conditions.{Cert, IsAccepted}

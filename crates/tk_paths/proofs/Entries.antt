@@ -3,7 +3,7 @@ use Rattle.std.proofs.Common.{◌≡◌, ◌≤◌, ◌<◌, ◌+◌, ◌++◌, 
 use Rattle.mb_pfu.specs.declared.parts.Watch.{Watch}
 use Rattle.mb_pfu.specs.Tree.{Finished, Tree, Group, Leaf, no_more, member, size, has_ended, all_ended, append_group}
 use Rattle.mb_pfu.specs.Contexts.{filled, Context, plug}
-use Rattle.tk_paths.proofs.Slots.{middle, without_last}
+use Rattle.tk_paths.proofs.SlotFacts.{middle, without_last}
 use Rattle.mb_pfu.specs.Unit.{fresh}
 use Rattle.mb_pfu.specs.Rows.{with_last}
 use Rattle.tk_paths.proofs.Inner.{Image, stack, begun}

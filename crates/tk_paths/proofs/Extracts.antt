@@ -13,7 +13,7 @@ use Rattle.tk_paths.specs.declared.word.Word.{Word}
 use Rattle.tk_paths.specs.declared.word.Word.TheVariants.{Fork, Abrt, Leave}
 use Rattle.tk_paths.specs.Words.{read_instr}
 use Rattle.tk_paths.specs.Kinds.{start_of, abort_at}
-use Rattle.tk_paths.proofs.Slots.{without_last}
+use Rattle.tk_paths.proofs.SlotFacts.{without_last}
 use Rattle.tk_paths.proofs.Inner.{Image}
 use Rattle.tk_paths.proofs.Conditions.{Cert, Thread, IsAt, AreAborts, IsFine, IsAccepted}
 use Rattle.tk_paths.proofs.Carried.{image_of, cert_of}

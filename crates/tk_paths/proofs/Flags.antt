@@ -6,7 +6,7 @@ use Rattle.mb_pfu.specs.Rows.{relief, relief_with, with_last}
 use Rattle.mb_pfu.specs.Unit.{fresh}
 use Rattle.pt_image.specs.declared.Parts.{Parts}
 use Rattle.tk_paths.specs.Kinds.{abort_at}
-use Rattle.tk_paths.proofs.Slots.{without_last}
+use Rattle.tk_paths.proofs.SlotFacts.{without_last}
 use Rattle.tk_paths.proofs.Inner.{stack}
 
 module _ (image : Parts) where

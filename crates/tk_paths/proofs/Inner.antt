@@ -3,7 +3,7 @@ use Rattle.std.specs.Prelude.{not, map, length, nat_le, nat_lt, ◌≡◌, ℕ, 
 use Rattle.mb_pfu.specs.declared.parts.Watch.{Watch}
 use Rattle.mb_pfu.specs.Tree.{Running, Pausing, Finished, Tree, Group, Leaf, Waits, no_more, member, size, all_ended, pause_at, tests_begun, all_woken}
 use Rattle.mb_pfu.specs.Contexts.{Context, plug, climb, IsQuietBefore}
-use Rattle.tk_paths.proofs.Slots.{middle, without_last, next_cond, test_answered}
+use Rattle.tk_paths.proofs.SlotFacts.{middle, without_last, next_cond, test_answered}
 use Rattle.mb_pfu.specs.Unit.{fresh}
 use Rattle.mb_pfu.specs.Rows.{with_last}
 use Rattle.mb_pfu.specs.Tree.{tally}

@@ -1,4 +1,4 @@
-pub mod Slots
+pub mod SlotFacts
 pub mod Inner
 pub mod Conditions
 pub mod BySums

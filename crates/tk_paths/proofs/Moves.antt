@@ -30,7 +30,7 @@ use Rattle.mb_isa.specs.Free.{free}
 use Rattle.mb_isa.specs.Tick.{Steps, still, onward}
 use Rattle.mb_isa.proofs.Charging.{charge-least}
 use Rattle.tk_paths.specs.Words.{instr_at, instr_in}
-use Rattle.tk_paths.proofs.Slots.{without_last}
+use Rattle.tk_paths.proofs.SlotFacts.{without_last}
 use Rattle.tk_paths.proofs.Inner.{Image, begun, IsSound, stack}
 use Rattle.tk_paths.proofs.Inner as inner
 use Rattle.tk_paths.proofs.Carried.{image_of}

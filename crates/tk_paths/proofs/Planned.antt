@@ -21,7 +21,7 @@ use Rattle.tk_paths.specs.Sums.{plus, greater, all_ends, most, most_paused}
 use Rattle.tk_paths.specs.Words.{instr_at, read_instr}
 use Rattle.tk_paths.specs.Kinds.{line_at, start_of, abort_at}
 use Rattle.tk_paths.specs.Acceptance.{begins, more}
-use Rattle.tk_paths.proofs.Slots.{without_last}
+use Rattle.tk_paths.proofs.SlotFacts.{without_last}
 use Rattle.tk_paths.proofs.Inner.{Image}
 use Rattle.tk_paths.proofs.Conditions.{Cert, Thread, IsAt, AreAborts, IsFine, IsAccepted}
 use Rattle.tk_paths.proofs.Carried.{image_of, cert_of}

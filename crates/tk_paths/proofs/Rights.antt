@@ -5,7 +5,7 @@ use Rattle.mb_pfu.specs.declared.parts.Watch.{Watch}
 use Rattle.mb_pfu.specs.Tree.{Running, Pausing, Finished, Tree, Group, Leaf, Waits, no_more, member, size, has_ready, any_ready, has_ended, all_ended, append_group}
 use Rattle.mb_pfu.specs.Rows.{relief, relief_with}
 use Rattle.mb_pfu.specs.Contexts.{filled, Frame, Context, plug}
-use Rattle.tk_paths.proofs.Slots.{beyond, middle}
+use Rattle.tk_paths.proofs.SlotFacts.{beyond, middle}
 use Rattle.tk_paths.specs.declared.word.Word.TheVariants.{Fork}
 use Rattle.tk_paths.proofs.Inner.{Image, stack, IsListed}
 use Rattle.tk_paths.proofs.Conditions.{IsPlain, Cert, Thread, both_sides, Handled, AreAborts}

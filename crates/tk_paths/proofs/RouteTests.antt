@@ -16,7 +16,7 @@ use Rattle.mb_isa.specs.Control as control
 use Rattle.tk_paths.specs.Kinds.{line_at, is_cond, upper_at}
 use Rattle.tk_paths.specs.declared.view.Side.{Side}
 use Rattle.tk_paths.specs.declared.view.Side.TheVariants.{ToPause, ToEnd}
-use Rattle.tk_paths.proofs.Slots.{Judged, Cut, Kept, behind_one, judged, judged_tree, first_cond, next_cond, next_cond_among, if_some, test_answered, test_answered_among}
+use Rattle.tk_paths.proofs.SlotFacts.{Judged, Cut, Kept, behind_one, judged, judged_tree, first_cond, next_cond, next_cond_among, if_some, test_answered, test_answered_among}
 use Rattle.tk_paths.proofs.Inner.{Image, IsSound}
 use Rattle.tk_paths.proofs.Conditions.{Cert, IsAccepted}
 use Rattle.tk_paths.proofs.Carried.{image_of, cert_of}

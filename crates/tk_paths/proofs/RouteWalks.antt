@@ -26,7 +26,7 @@ use Rattle.tk_paths.specs.declared.view.Side.TheVariants.{ToPause, ToEnd}
 use Rattle.tk_paths.specs.declared.word.Word.{Word}
 use Rattle.tk_paths.specs.declared.word.Word.TheVariants.{Fork, Eot, End, Abrt, Leave}
 use Rattle.tk_paths.specs.Words.{instr_at, read_instr}
-use Rattle.tk_paths.proofs.Slots.{middle, without_last}
+use Rattle.tk_paths.proofs.SlotFacts.{middle, without_last}
 use Rattle.tk_paths.proofs.Inner.{Image, IsSound, stack, begun}
 use Rattle.tk_paths.proofs.Inner as inner
 use Rattle.tk_paths.proofs.Conditions.{Cert, Thread, IsFine, IsAccepted}

@@ -3,7 +3,7 @@ use Rattle.std.proofs.Common.{ℤ, ◌≡◌, ◌⊎◌, ◌≤◌, ◌+◌, ℕ
 use Rattle.mb_pfu.specs.declared.parts.Watch.{Watch}
 use Rattle.mb_pfu.specs.Tree.{Running, Tree, Leaf}
 use Rattle.mb_pfu.specs.Contexts.{plug, IsQuietBefore}
-use Rattle.tk_paths.proofs.Slots.{middle}
+use Rattle.tk_paths.proofs.SlotFacts.{middle}
 use Rattle.tk_paths.proofs.Inner.{Image, Outcome, Goes, Traps, Stops, InTurns, stack, IsSound}
 use Rattle.tk_paths.proofs.Conditions.{upper_at, IsPlain, Cert, Thread, loops_of}
 use Rattle.tk_paths.specs.declared.view.Side.{Side}

@@ -5,7 +5,7 @@ use Rattle.mb_pfu.specs.declared.parts.Watch.{Watch}
 use Rattle.mb_pfu.specs.Tree.{Running, Pausing, Finished, Tree, Group, Leaf, Waits, member, size, any_ready, all_ended, relieved_tree, settle, pause_at, append_group}
 use Rattle.mb_pfu.specs.Rows.{relief}
 use Rattle.mb_pfu.specs.Contexts.{filled, Frame, Context, climb}
-use Rattle.tk_paths.proofs.Slots.{beyond, middle}
+use Rattle.tk_paths.proofs.SlotFacts.{beyond, middle}
 use Rattle.tk_paths.specs.declared.word.Word.{Word}
 use Rattle.tk_paths.specs.declared.word.Word.TheVariants.{Eot, Fork}
 use Rattle.tk_paths.proofs.Inner.{Image, stack}

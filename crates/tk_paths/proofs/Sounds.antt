@@ -6,7 +6,7 @@ use Rattle.mb_pfu.specs.declared.parts.Watch.{Watch}
 use Rattle.mb_pfu.specs.Tree.{Activity, Running, Tree, Group, Leaf, Waits, no_more, member, size, any_ready, all_ended, relieved_tree, settle, append_group, one, tally, tally_group}
 use Rattle.mb_pfu.specs.Rows.{relief}
 use Rattle.mb_pfu.specs.Contexts.{filled, Context, plug, climb}
-use Rattle.tk_paths.proofs.Slots.{beyond, middle}
+use Rattle.tk_paths.proofs.SlotFacts.{beyond, middle}
 use Rattle.tk_paths.specs.declared.word.Word.TheVariants.{Fork}
 use Rattle.tk_paths.proofs.Inner.{Image, stack, begun, IsSound, occurs, occurs_among, is_busy}
 use Rattle.tk_paths.proofs.Conditions.{Cert, Line, Thread, IsAccepted}

@@ -7,7 +7,7 @@ use Rattle.mb_pfu.specs.declared.parts.Watch.{Watch}
 use Rattle.mb_pfu.specs.Tree.{Running, Pausing, Finished, Tree, Leaf, Waits, relieved_tree, pause_at, tally}
 use Rattle.mb_pfu.specs.Rows.{relief, with_last}
 use Rattle.mb_pfu.specs.Contexts.{Context, plug, climb, IsQuietBefore}
-use Rattle.tk_paths.proofs.Slots.{middle, without_last}
+use Rattle.tk_paths.proofs.SlotFacts.{middle, without_last}
 use Rattle.mb_pfu.specs.Unit.{fresh}
 use Rattle.tk_paths.specs.declared.word.Word.{Word}
 use Rattle.tk_paths.specs.declared.word.Word.TheVariants.{Does, Imm, Jump, Branch, Eot, Fork, End, Abrt, Leave, Call, Ret, Loop, Next, Drop, Cend}

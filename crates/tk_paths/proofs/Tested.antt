@@ -4,7 +4,7 @@ use Rattle.std.proofs.lemmas.Bool.{false≢true}
 use Rattle.mb_pfu.specs.declared.parts.Watch.{Watch}
 use Rattle.mb_pfu.specs.Tree.{Activity, Running, Tree, Group, Leaf, Waits, no_more, member, is_in, is_among, at_slot, at_member, answer_at}
 use Rattle.mb_pfu.specs.Rows.{any_due, answered, or_else, due, first_due, no_watch, watch_due, is_cut}
-use Rattle.tk_paths.proofs.Slots.{Judged, Cut, Kept, behind_one, judged, judged_tree, first_cond, next_cond, next_cond_among, if_some, test_answered, test_answered_among}
+use Rattle.tk_paths.proofs.SlotFacts.{Judged, Cut, Kept, behind_one, judged, judged_tree, first_cond, next_cond, next_cond_among, if_some, test_answered, test_answered_among}
 
 due-cond : (watches : List Watch) → any_due watches ≡ is_some (first_cond watches)
 due-cond [] = refl

@@ -5,7 +5,7 @@ use Rattle.std.proofs.lemmas.Option.{none-some, same_Some}
 use Rattle.mb_pfu.specs.declared.parts.Watch.{Watch}
 use Rattle.mb_pfu.specs.Tree.{Running, Pausing, Finished, Tree, Group, Leaf, Waits, no_more, member, size, has_ended, all_ended, each_member, wakes, all_woken}
 use Rattle.mb_pfu.specs.Rows.{answered, any_due, or_else}
-use Rattle.tk_paths.proofs.Slots.{Judged, Cut, Kept, behind_one, judged, judged_tree, first_cond, next_cond, next_cond_among, if_some, test_answered, test_answered_among}
+use Rattle.tk_paths.proofs.SlotFacts.{Judged, Cut, Kept, behind_one, judged, judged_tree, first_cond, next_cond, next_cond_among, if_some, test_answered, test_answered_among}
 use Rattle.tk_paths.specs.declared.word.Word.TheVariants.{Eot, Fork}
 use Rattle.tk_paths.proofs.Inner.{Image, stack, IsListed}
 use Rattle.tk_paths.specs.declared.view.Side.{Side}

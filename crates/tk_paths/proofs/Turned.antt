@@ -45,7 +45,7 @@ use Rattle.tk_paths.proofs.Firsts.{job}
 use Rattle.tk_paths.proofs.Running.{IsTurned, IsTurnKept, turn-running}
 use Rattle.tk_paths.proofs.Steps.{turn-kept}
 use Rattle.tk_paths.proofs.Sounds.{sound-leaf}
-use Rattle.tk_paths.proofs.Slots.{middle, without_last}
+use Rattle.tk_paths.proofs.SlotFacts.{middle, without_last}
 use Rattle.tk_paths.proofs.Carried.{reverse-last}
 use Rattle.tk_paths.proofs.Accepts.{Accepts}
 use Rattle.tk_paths.proofs.Accepted.{abort-there}

@@ -14,7 +14,7 @@ use Rattle.mb_pfu.specs.Contexts as contexts
 use Rattle.mb_pfu.specs.Calls.{last_of, last_from}
 use Rattle.mb_pfu.proofs.Firsts.{at-numbered, report-numbered}
 use Rattle.mb_pfu.proofs.Laws.{at-plug, stay-plug, report-plug, free-outside}
-use Rattle.tk_paths.proofs.Slots.{beyond, middle, without_last, first_cond, next_cond, next_cond_among}
+use Rattle.tk_paths.proofs.SlotFacts.{beyond, middle, without_last, first_cond, next_cond, next_cond_among}
 use Rattle.tk_paths.proofs.Inner.{Image, is_none, occurs, occurs_among, IsSound}
 use Rattle.tk_paths.proofs.Inner as machine
 

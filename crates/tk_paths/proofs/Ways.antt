@@ -11,7 +11,7 @@ use Rattle.tk_paths.specs.declared.view.Side.{Side}
 use Rattle.tk_paths.specs.declared.view.Side.TheVariants.{ToPause, ToEnd}
 use Rattle.tk_paths.specs.Words.{instr_at}
 use Rattle.tk_paths.specs.Kinds.{line_at, start_of}
-use Rattle.tk_paths.proofs.Slots.{without_last}
+use Rattle.tk_paths.proofs.SlotFacts.{without_last}
 use Rattle.tk_paths.proofs.Conditions.{IsAt}
 use Rattle.tk_paths.proofs.Carried.{kind_of, image_of, cert_of}
 use Rattle.tk_paths.specs.Passages.{Passage}

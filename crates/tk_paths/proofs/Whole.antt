@@ -5,7 +5,7 @@ use Rattle.std.proofs.lemmas.Option.{same_Some}
 use Rattle.mb_pfu.specs.declared.parts.Watch.{Watch}
 use Rattle.mb_pfu.specs.Tree.{Activity, Running, Tree, Group, Leaf, Waits, no_more, member, each_slot, each_member, tests_begun, wakes, one, tally, tally_group}
 use Rattle.mb_pfu.specs.Contexts.{Frame, Context}
-use Rattle.tk_paths.proofs.Slots.{middle, Judged, Cut, Kept, judged, judged_tree, first_cond, next_cond, if_some, test_answered, test_answered_among}
+use Rattle.tk_paths.proofs.SlotFacts.{middle, Judged, Cut, Kept, judged, judged_tree, first_cond, next_cond, if_some, test_answered, test_answered_among}
 use Rattle.mb_pfu.specs.Rows.{renewed}
 use Rattle.tk_paths.specs.declared.word.Word.{Word}
 use Rattle.tk_paths.specs.declared.word.Word.TheVariants.{Does, Imm, Jump, Branch, Eot, Fork, End, Abrt, Leave, Call, Ret, Loop, Next, Drop, Cend}

@@ -1,6 +1,6 @@
 use Rattle.std.proofs.Common.{◌∙◌, w32, FitsSigned, rules}
 use Rattle.std.proofs.lemmas.Int.{to_z-of_z}
-use Rattle.pt_base.proofs.Words.{positive_is}
+use Rattle.pt_base.proofs.WordFacts.{positive_is}
 use Rattle.pc_parse.proofs.constants.positive_word.Goals as goal
 
 pub returns : goal.returns

@@ -8,7 +8,7 @@ use Rattle.pc_rules.specs.Nests.{function_nests}
 use Rattle.pc_rules.specs.Judging.{IsWithin}
 use Rattle.pc_rules.specs.Faults.{note_nest}
 use Rattle.pc_rules.specs.declared.noting.Noted.{Noted}
-use Rattle.pc_rules.proofs.Verdicts.{broken_rule, broken_limit, nothing_broken, IsNoted, is_noted}
+use Rattle.pc_rules.proofs.VerdictFacts.{broken_rule, broken_limit, nothing_broken, IsNoted, is_noted}
 use Rattle.pc_rules.proofs.Counts.{are_sizes}
 use Rattle.pc_rules.proofs.judging.judge.Goals as goal
 

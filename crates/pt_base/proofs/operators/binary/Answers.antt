@@ -1,7 +1,7 @@
 use Rattle.std.proofs.Common.{◌%◌, w32, ◌∙◌, rules, FitsSigned, of_z, arith}
 use Rattle.std.proofs.lemmas.Int.{wrapping_add_is, wrapping_sub_is, to_z-of_z}
 use Rattle.std.proofs.lemmas.Nat.{pow_below}
-use Rattle.pt_base.proofs.Words.{quotient_is, shl_is}
+use Rattle.pt_base.proofs.WordFacts.{quotient_is, shl_is}
 use Rattle.pt_base.proofs.operators.binary.Goals as goal
 
 pub returns-in-Add : goal.returns-in-Add

@@ -8,7 +8,7 @@ use Rattle.mb_isa.specs.declared.words.Instr.TheVariants.{Fork}
 use Rattle.pt_image.specs.declared.image.Point.{Point}
 use Rattle.pt_image.specs.declared.image.Parts.{Parts}
 use Rattle.pc_lower.specs.Slots.{AreChildren}
-use Rattle.pc_lower.proofs.Steps.{lt-true}
+use Rattle.pc_lower.proofs.StepFacts.{lt-true}
 use Rattle.tk_cert.specs.Demands.{Demand, shape_demand, AllHold}
 use Rattle.tk_paths.specs.Words.{instr_at}
 use Rattle.tk_paths.specs.Kinds.{points_at, places_of}

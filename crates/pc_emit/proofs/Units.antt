@@ -20,7 +20,7 @@ use Rattle.tk_paths.specs.Kinds.{imm_in}
 use Rattle.tk_paths.specs.Regions.{behind_half, half, behind, IsUnit, IsWord, AreUnits}
 use Rattle.pc_lower.specs.Places.{Has, HasJump, wide, short, HasLoop, wide_loop, short_loop}
 use Rattle.pc_lower.specs.Words.{Written, alone, after_imm, IsWork, HasWritten, IsTest, HasBranch, wide_branch, short_branch}
-use Rattle.pc_lower.proofs.Steps.{leads-to}
+use Rattle.pc_lower.proofs.StepFacts.{leads-to}
 
 any_unit : State
 any_unit = record { slots = 0; tree = Leaf [] Finished; links = []; counters = [] }

@@ -21,7 +21,7 @@ use Rattle.pc_lower.specs.Places.{place_in, word_in, first_in, first_child, slot
 use Rattle.pc_lower.specs.Law.{Nesting, unnested, with_link, with_counter, unit_at, placed, turning}
 use Rattle.pc_lower.proofs.Slots.{outside, under-raise, other-of}
 use Rattle.pc_lower.proofs.Plugs.{in-plug}
-use Rattle.pc_lower.proofs.Steps.{does-word, does-second, second, listed, watches-are, change-leaf}
+use Rattle.pc_lower.proofs.StepFacts.{does-word, does-second, second, listed, watches-are, change-leaf}
 
 pub last-is : (ns : List ℕ) (n : ℕ) → unit.last_of (ns ++ n ∷ []) ≡ Some (ns, n)
 last-is [] n = refl

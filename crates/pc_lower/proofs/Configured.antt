@@ -23,7 +23,7 @@ use Rattle.pc_lower.specs.Law.{unnested, unit_at}
 use Rattle.pc_lower.specs.Words.{HasSteps, HasTest, Writing}
 use Rattle.pc_lower.specs.Image.{IsImageOf, StandsAt}
 use Rattle.pc_lower.proofs.Slots.{same-of, under-least, apart, inside, inside-group}
-use Rattle.pc_lower.proofs.Steps.{listed}
+use Rattle.pc_lower.proofs.StepFacts.{listed}
 use Rattle.pc_lower.proofs.Calling.{first-is}
 use Rattle.pc_lower.proofs.RegionGoing.{numbers-snoc}
 use Rattle.pc_lower.proofs.Slotwise.{in-is, size-is}

@@ -13,13 +13,13 @@ use Rattle.pc_lower.specs.Aborts.{aborts_of}
 use Rattle.pc_lower.specs.Sound.{Fits, AllFit, ProgramFits}
 use Rattle.pc_lower.specs.Loops.{LoopsKept, AllLoopsKept}
 use Rattle.pc_lower.specs.Laws.{Same}
-use Rattle.pc_lower.proofs.Statements.{same_start}
+use Rattle.pc_lower.proofs.StatementFacts.{same_start}
 use Rattle.pc_lower.proofs.Whole.{meets_at}
 use Rattle.pc_lower.specs.Laid.{Lasts, Passes}
 use Rattle.pc_lower.specs.Layable.{IsLayable, AreLayable}
 use Rattle.pc_lower.proofs.Nestings.{LiteralsFit, AllLiteralsFit}
 use Rattle.pc_lower.proofs.Shapes.{Nests, AllNest}
-use Rattle.pc_lower.proofs.Nodes.{passes, instant}
+use Rattle.pc_lower.proofs.NodeFacts.{passes, instant}
 
 halts : (routines : List Routine) (o : Outcome) (e : End) → IsPaused o → Same routines o e → (r : Rest) × (after : State) × (e ≡ Halted r after)
 halts routines (Done store) e paused same = absurd paused

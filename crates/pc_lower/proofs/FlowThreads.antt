@@ -13,7 +13,7 @@ use Rattle.pc_lower.specs.Numbering.{all_started}
 use Rattle.pc_lower.proofs.RegionThreads.{all-append}
 use Rattle.pc_lower.proofs.Slots.{same-of}
 use Rattle.pc_lower.proofs.Shapes.{Names, AllName, threads_in, threads_in_all}
-use Rattle.pc_lower.proofs.Nodes.{neither-first, neither-second}
+use Rattle.pc_lower.proofs.NodeFacts.{neither-first, neither-second}
 
 -- ---- what a statement's node starts
 

@@ -12,7 +12,7 @@ use Rattle.pc_meaning.specs.Promises.{AllBelow}
 use Rattle.pc_lower.specs.Sound.{Fits, AllFit, RestFits, RestsFit}
 use Rattle.pc_lower.specs.Laws.{SameFrom, OutcomeFits}
 use Rattle.pc_lower.proofs.Ends.{same_if, same_followed, same_fired, SameJobs, same_joined}
-use Rattle.pc_lower.proofs.Statements.{same_start_all}
+use Rattle.pc_lower.proofs.StatementFacts.{same_start_all}
 
 -- ---- resuming
 

@@ -13,7 +13,7 @@ use Rattle.pc_lower.specs.Slots.{IsChild, Fits, FitsGroup, IsGood}
 use Rattle.pc_lower.specs.Places.{fork_place, first_child, watch}
 use Rattle.pc_lower.specs.Standing.{Stands, StandAll}
 use Rattle.pc_lower.specs.Law.{unnested, relieved, rested, placed, turning, Comes, Meets, ThreadMeets, Does}
-use Rattle.pc_lower.proofs.Steps.{turn-is}
+use Rattle.pc_lower.proofs.StepFacts.{turn-is}
 use Rattle.pc_lower.proofs.Paths.{more, chain, same_target}
 
 and-false : (a : Bool) → (a && false) ≡ false

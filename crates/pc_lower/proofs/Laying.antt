@@ -19,7 +19,7 @@ use Rattle.pc_lower.specs.Numbering.{slots_of, function_of}
 use Rattle.pc_lower.specs.Layable.{IsLayable, IsInstant, IsCalled}
 use Rattle.pc_lower.specs.Placing.{runs_in_slot}
 use Rattle.pc_lower.proofs.Shapes.{Anything}
-use Rattle.pc_lower.proofs.Nodes.{passes, body-instant}
+use Rattle.pc_lower.proofs.NodeFacts.{passes, body-instant}
 use Rattle.pc_lower.proofs.FlowLoops.{body-layable}
 use Rattle.pc_lower.proofs.Room.{thread-room, routine-room}
 use Rattle.pc_lower.proofs.Functions.{some-there}

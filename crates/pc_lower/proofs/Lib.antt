@@ -2,7 +2,7 @@ pub mod Leaving
 pub mod FlowTrees
 pub mod Slots
 pub mod Plugs
-pub mod Steps
+pub mod StepFacts
 pub mod Calling
 pub mod Paths
 pub mod Groups
@@ -30,7 +30,7 @@ pub mod Example
 pub mod Values
 pub mod Moves
 pub mod Ends
-pub mod Statements
+pub mod StatementFacts
 pub mod Going
 pub mod Whole
 pub mod Temporaries
@@ -53,7 +53,7 @@ pub mod Trees
 pub mod Lowers
 pub mod Steady
 pub mod FlowWhole
-pub mod Nodes
+pub mod NodeFacts
 pub mod Order
 pub mod Shapes
 pub mod FlowLoops

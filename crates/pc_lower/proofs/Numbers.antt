@@ -24,7 +24,7 @@ use Rattle.pc_lower.proofs.Lasting.{loops_kept}
 use Rattle.pc_lower.proofs.Ordered.{Among, no_more, passed, taken, among_rise}
 use Rattle.pc_lower.specs.Layable.{numbers_of, numbers_of_all, itself, nothing, pauses_in, forks_of, guards_of, numbers_in, AreCounted}
 use Rattle.pc_lower.specs.Placing.{typed_flow}
-use Rattle.pc_lower.proofs.Nodes.{neither-first, neither-second}
+use Rattle.pc_lower.proofs.NodeFacts.{neither-first, neither-second}
 use Rattle.pc_lower.proofs.Spans.{counted-from, chosen_step, chosen_in_all, program_in, numbers_in_tree, numbers_in_trees, body_same}
 
 -- ---- from nodes to statements

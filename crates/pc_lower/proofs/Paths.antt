@@ -14,7 +14,7 @@ use Rattle.mb_isa.specs.Tick.{Steps, still, onward}
 use Rattle.pc_lower.specs.Flow.{Nodes, no_nodes, and, Rest, End, Through, Halted, later, then_do, go, State as FlowState}
 use Rattle.pc_lower.specs.Places.{HasJump, wide, short}
 use Rattle.pc_lower.specs.Law.{Nesting, unit_at, placed, Comes, Halts, Meets}
-use Rattle.pc_lower.proofs.Steps.{does-word, does-second, jump-plan, second}
+use Rattle.pc_lower.proofs.StepFacts.{does-word, does-second, jump-plan, second}
 
 module _ (image : Parts) (costs : List ℕ) {Data : Type 0} (rules : Rules Data) (Represents : Data → FlowState → Type 0) where
   recount : (c : Control) (d : Data) (a b i j : ℕ) (l : Control) (x : Data) → a ≡ b → i ≡ j → Steps rules image costs c d a i l x → Steps rules image costs c d b j l x

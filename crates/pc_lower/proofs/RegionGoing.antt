@@ -18,7 +18,7 @@ use Rattle.pc_lower.specs.Places.{place_in, fork_place, first_child, watch, Has}
 use Rattle.pc_lower.specs.Laid.{Placing, Laid, LaidAll}
 use Rattle.pc_lower.specs.StepCounts.{Sizes, total, option_words, through, through_all, reach, reach_all}
 use Rattle.pc_lower.specs.Law.{Nesting, unnested, with_link, with_counter, rested, unit_at, placed, turning, Comes, Halts, Meets, Goes, AllStart, Room, RoomAll, Laws}
-use Rattle.pc_lower.proofs.Steps.{eot-step, enter-step, leave-step}
+use Rattle.pc_lower.proofs.StepFacts.{eot-step, enter-step, leave-step}
 use Rattle.pc_lower.proofs.Calling.{first-is, children, children-fit, children-ready, fork-step, call-step}
 use Rattle.pc_lower.proofs.Paths.{after_step, go_on_to, at_once, same_target, meets_more, meets_step, meets_then, meets_jump, meets_lasting, meets_test}
 use Rattle.pc_lower.proofs.Groups.{Jobs, Lawful, group_runs, meets_group}

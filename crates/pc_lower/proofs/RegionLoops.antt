@@ -14,7 +14,7 @@ use Rattle.pc_lower.specs.Flow.{tested, decides, End, state_of, looping, State a
 use Rattle.pc_lower.specs.Slots.{IsGood}
 use Rattle.pc_lower.specs.Places.{Has, HasLoop, wide_loop, short_loop}
 use Rattle.pc_lower.specs.Law.{Nesting, with_counter, unit_at, placed, Comes}
-use Rattle.pc_lower.proofs.Steps.{does-word, second}
+use Rattle.pc_lower.proofs.StepFacts.{does-word, second}
 use Rattle.pc_lower.proofs.Calling.{loop-step, loop-second, next-over, next-turn, drop-step}
 use Rattle.pc_lower.proofs.Paths.{more, after_step, go_on_to, at_once}
 

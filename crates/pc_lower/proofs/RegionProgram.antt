@@ -17,7 +17,7 @@ use Rattle.pc_lower.specs.StepCounts.{Sizes, through, reach}
 use Rattle.pc_lower.specs.Law.{Nesting, unnested, with_link, with_counter, placed, Meets, ThreadMeets, Starts, AllStart, Returns, Room, RoomAll, Laws, IsPart}
 use Rattle.pc_lower.specs.Program.{IsEarlier, AreEarlier, HasRoom, HaveRoom, IsCompiled}
 use Rattle.pc_lower.proofs.Slots.{other-of}
-use Rattle.pc_lower.proofs.Steps.{turn-is}
+use Rattle.pc_lower.proofs.StepFacts.{turn-is}
 use Rattle.pc_lower.proofs.Calling.{first-is, ret-step}
 use Rattle.pc_lower.proofs.Paths.{after_step, go_on_to, at_once}
 use Rattle.pc_lower.proofs.RegionGoing.{goes}

@@ -21,7 +21,7 @@ use Rattle.pc_lower.specs.Law.{Comes, Laws}
 use Rattle.pc_lower.specs.Tests.{Says}
 use Rattle.pc_lower.specs.Words.{HasSteps, HasTest, Written, alone, after_imm, words_in, and_then, does_all, HasWritten, IsTest, HasBranch, wide_branch, short_branch, Writing, DataLaws, HasCondition}
 use Rattle.pc_lower.proofs.Paths.{append}
-use Rattle.pc_lower.proofs.Steps.{leads-to}
+use Rattle.pc_lower.proofs.StepFacts.{leads-to}
 
 job-at : (who : Who) (p : ℕ) → job_in (phase_at who p) ≡ Some (who, p)
 job-at (Turn s) p = refl

@@ -19,7 +19,7 @@ use Rattle.pc_lower.specs.Standing.{cut, woken, woken_all}
 use Rattle.pc_lower.specs.Laid.{Placing, Laid, LaidAll}
 use Rattle.pc_lower.specs.StepCounts.{Sizes, option_words, through_all, reach, reach_all, done_in, rest_in, done_in_all, rest_in_all, all_in}
 use Rattle.pc_lower.specs.Law.{unnested, placed, turning, Meets, ThreadMeets, Resumes, Room, RoomAll, Laws, IsPart}
-use Rattle.pc_lower.proofs.Steps.{finish-step}
+use Rattle.pc_lower.proofs.StepFacts.{finish-step}
 use Rattle.pc_lower.proofs.Calling.{first-is}
 use Rattle.pc_lower.proofs.Paths.{more, after_step, go_on_to, at_once, same_target, halts_more, meets_more, meets_then, meets_jump}
 use Rattle.pc_lower.proofs.Groups.{Lawful, rested-caught, restale}

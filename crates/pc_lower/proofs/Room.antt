@@ -10,7 +10,7 @@ use Rattle.pc_lower.specs.Loops.{LoopsKept, AllLoopsKept}
 use Rattle.pc_lower.specs.Laid.{Placing}
 use Rattle.pc_lower.specs.Program.{HasRoom, HaveRoom}
 use Rattle.pc_lower.proofs.Shapes.{Nests, AllNest, Names, AllName}
-use Rattle.pc_lower.proofs.Nodes.{neither-first, neither-second}
+use Rattle.pc_lower.proofs.NodeFacts.{neither-first, neither-second}
 
 module _ (placing : Placing) where
   bounded-room : (most : ℕ) (test : Option Test) (body : Node) (l k : ℕ) → k < 136 → HasRoom placing body l (k + 1) → HasRoom placing (bounded_of most test body) l k

@@ -16,7 +16,7 @@ use Rattle.pc_lower.specs.Laws.{Same, SameFrom, OutcomeFits, IsLowered}
 use Rattle.pc_lower.proofs.Values.{leaves_value}
 use Rattle.pc_lower.proofs.Moves.{locals_set, test_decides}
 use Rattle.pc_meaning.proofs.Lookups.{slice_get_middle, both_grow}
-use Rattle.pc_lower.proofs.Statements.{same_start_all}
+use Rattle.pc_lower.proofs.StatementFacts.{same_start_all}
 use Rattle.pc_lower.proofs.Going.{same_resume, fits_start_all, fits_resume, outcome_more}
 use Rattle.pc_meaning.proofs.Pausing.{none_pauses}
 

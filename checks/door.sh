@@ -51,10 +51,9 @@ sleep 1; touch repo/crates/low/src/lib.rt fails
 : >wanted
 cat >wanted_err <<TEXT
 pretc: proving 2 crates, N at a time, and building the program; log: $log
-pretc: linking
-pretc: the build failed, see $log
+pretc: a crate isn't proved, see $log
 TEXT
-front "a build that fails" 70
+front "a proof that fails" 70
 rm fails repo/crates/pretc/out/pretc
 echo "pretc: the program isn't built, and the kit that builds it (rt) isn't in the path" >wanted_err
 mkdir bare; for word in bash dirname cat sed find grep; do ln -s "$(command -v "$word")" bare/; done

@@ -25,15 +25,26 @@ front() {
 }
 # marks COLUMN COUNT: carets below a line that is shown as line 1
 marks() { printf '    | %*s%s\n' "$1" '' "$(printf '%*s' "$2" '' | tr ' ' '^')"; }
+# heres RULE: the line that tells what is meant, where there is one for its smallest source
+heres() {
+  case "$1" in
+  S1) echo "here: $(advice 'x = 1')" ;;
+  N3) echo 'here: `v` is an array: write `v[i]`' ;;
+  N6) echo 'here: no function is `void main()`' ;;
+  Z8) echo 'here: the loop with the most turns is in line 1: #100000' ;;
+  esac
+}
+# advice WRITTEN: what is said where that is written
+advice() { awk -F ' [|] ' -v row="| \`$1\`" '$1 == row { sub(/ [|]$/, "", $2); print $2 }' "$rules"; }
 # source_of RULE FROM TO: the front door on s.pc, a source of one line
 source_of() {
   local rule="$1" from="$2" to="$3" text
   text="$(head -c 100 s.pc)"
   printf 'refused %s %s %s\n' "$rule" "$from" "$to" >wanted
   if [ "$from" = "$to" ]; then
-    { echo "pretc: s.pc: $rule at the end"; echo "  1 | $text"; marks "$from" 1; said "$rule"; } >wanted_err
+    { echo "pretc: s.pc: $rule at the end"; echo "  1 | $text"; marks "$from" 1; heres "$rule"; said "$rule"; } >wanted_err
   else
-    { echo "pretc: s.pc, line 1, column $((from + 1)): $rule"; echo "  1 | $text"; marks "$from" $((to - from)); said "$rule"; } >wanted_err
+    { echo "pretc: s.pc, line 1, column $((from + 1)): $rule"; echo "  1 | $text"; marks "$from" $((to - from)); heres "$rule"; said "$rule"; } >wanted_err
   fi
   front "$rule" 1 rules s.pc
 }
@@ -78,9 +89,9 @@ front "several lines" 1 rules s.pc
 # the line before, where the token is the first of its line
 printf 'int x = 0;\nvoid main() {\n  x = x + 1\n\n  EOT;\n}\n' >s.pc
 echo "refused S1 40 43" >wanted
-{ printf 'pretc: s.pc, line 5, column 3: S1\n  3 |   x = x + 1\n  5 |   EOT;\n    |   ^^^\n'; said S1; } >wanted_err
+{ printf 'pretc: s.pc, line 5, column 3: S1\n  3 |   x = x + 1\n  5 |   EOT;\n    |   ^^^\n'; echo "here: $(advice 'x = 1')"; said S1; } >wanted_err
 front "a token that is first on its line" 1 rules s.pc
-# what C has and PRET-C hasn't: by the mark at the place, or by a word of the line outside of comments
+# what C has and PRET-C hasn't: by what is written, by a word of the line outside of comments, or by the mark at the place
 here() {
   printf '%s\n' "$2" >s.pc
   PRETC_EXPLAIN=always "$top/pretc" rules s.pc >out 2>err </dev/null
@@ -92,7 +103,65 @@ here 'there is one loop: `while (c) #n` with the most turns, or `while (c)` whos
 here 'every value is an `int` of 32 bits' 'unsigned x;'
 here 'there are no strings and no characters: write the number' 'int x; void main() { x = "a"; }'
 here 'write `1` and `0`' 'int x; void main() { x = true; }'
-here '' 'int x; void main() { /* for */ x = 1 }'
+here 'write `if` and `else`; a loop ends by its condition, and an abort leaves from anywhere' 'int x; void main() { switch (x) { } }'
+# a word that the source declares is a name
+here "$(advice 'x = 1')" 'int switch; void main() { if (switch) switch = 1 switch = 2; }'
+here "$(advice 'x = 1')" 'int x; void main() { /* for */ x = 1 }'
+here '' 'int x; void main() { x = 2 + ; }'
+while IFS='@' read -r row source; do
+  due="$(advice "$row")"
+  [ -n "$due" ] || wrong "$row: no such row"
+  here "$due" "$source"
+done <<'ROWS'
+#define N 4@#define N 4
+if (x = 1)@int x; void main() { if (x = 1) EOT; }
+if (x = 1)@int x; void main() { while (x = 1) EOT; }
+x == 1;@int x; void main() { x == 1; }
+int *p;@int *p; void main() { }
+int *p;@int x; int y; void main() { x = &y; }
+int *p;@int x; void main() { *x = 0; }
+main() { }@main() { EOT; }
+int main() { }@int main() { EOT; }
+int f() { }@int f() { int x = 1; } void main() { }
+while (c) #n@int x; void main() { while (x) #n { } }
+int v[N];@int v[N]; void main() { }
+int v[N];@int v[-4]; void main() { }
+int v[2] = {0, 0};@int v[2] = {0, 0}; void main() { }
+ReactiveInput int a;@ReactiveInput int a; void main() { }
+abort { } when (c);@int x; void main() { abort { EOT; } when (x); }
+abort x = 1 when pre (c);@int x; void main() { abort EOT when pre (x); }
+abort { } when pre (c)@int x; void main() { abort { EOT; } when pre (x) EOT; }
+abort { }; when pre (c);@int x; void main() { abort { EOT; }; when pre (x); }
+abort { }@int x; void main() { abort { EOT; } x = 1; }
+x = pre (y);@int x; void main() { x = pre (x); }
+PAR();@void main() { PAR(); }
+PAR(f());@void f() { EOT; } void main() { PAR(f()); }
+else@int x; void main() { EOT; else x = 1; }
+void main() {@void main() { EOT;
+}@void main() { EOT; } }
+int k = f(a);@int f() { return 1; } void main() { int k = f(); }
+void f() { void g() { }@int x; void f() { x = 1; void main() { }
+void f() { void g() { }@int x; void f() { x = 1; int g() { return 1; } void main() { }
+EOT();@void main() { EOT(); }
+x = y = 0;@int x; int y; void main() { x = y = 0; }
+while x@int x; void main() { while !x EOT; }
+while x@int x; void main() { abort EOT; when pre x; }
+int k = 2 * 3;@int k = 2 * 3; void main() { }
+weak PAR(f);@void f() { EOT; } void main() { weak PAR(f); }
+x = f(a) + 1;@int x; int f() { return 1; } void main() { x = f() + 1; }
+x = 1@int x; void main() { int y = 0 int z; }
+x = 1@int f() { int y; y = 0 return y; } void main() { }
+x = 1, y = 2;@int x; int y; void main() { x = 1, y = 2; }
+(int) x@int x; void main() { x = (int) x; }
+x->y@int x; int y; void main() { x = x->y; }
+ROWS
+here 'a keyword is meant, and written otherwise: `EOT`' 'void main() { eot; }'
+here 'a keyword is meant, and written otherwise: `else`' 'int x; void main() { if (x) x = 1; elseif (x) x = 2; }'
+here 'a keyword is meant, and written otherwise: `ReactiveInput`' 'ReactivInput int a = 0; void main() { }'
+here '`x` is a single word: it has no index' 'int x; void main() { x[0] = 1; }'
+here 'no function is `void main()`' 'void run() { EOT; }'
+here 'the loop with the most turns is in line 1: #100000' 'int x; void main() { while (1) #2 x = 1; while (1) #100000 x = 1; }'
+here '`f` is started twice, which N7 forbids' 'void f() { EOT; } void g() { EOT; } void main() { PAR(f, f); }'
 printf '// \xc3\xa4\nint x = 0;\nvoid main() {\n\t/* \xc3\xa4 */ y = 1;\n}\n' >s.pc
 echo "refused N2 41 42" >wanted
 # nothing is said where it isn't asked for
@@ -100,8 +169,20 @@ for asked in never ""; do
   PRETC_EXPLAIN="$asked" "$top/pretc" rules s.pc >out 2>err </dev/null; status=$?
   expect 1 wanted "PRETC_EXPLAIN=$asked"; [ -s err ] && wrong "PRETC_EXPLAIN=$asked: something is said"
 done
-echo usage >wanted; said 2 >wanted_err; front "usage" 2 rules
-echo "no file" >wanted; said 17 >wanted_err; front "no file" 17 rules missing
+echo usage >wanted; { said 2; echo "  ./pretc rules PROGRAM"; } >wanted_err; front "usage" 2 rules
+{ said 2; echo "  ./pretc gen N"; echo "  N is a number of threads from 1 to 62"; } >wanted_err; front "usage of gen" 2 gen 63
+{
+  said 2
+  printf '  ./pretc %s\n' 'rules PROGRAM' 'print PROGRAM' 'go PROGRAM IMAGE < TRACE' 'run PROGRAM COSTS IMAGE CERT < TRACE' 'mean PROGRAM < TRACE'
+  printf '  ./pretc %s\n' 'check IMAGE CERT COSTS' 'exec IMAGE CERT COSTS < TRACE' 'gen N' 'job N'
+  echo '  COSTS is a file, or `-` where each class of words costs 1'
+  echo '  N is a number of threads from 1 to 62'
+  echo '  the words name different files'
+} >wanted_err
+front "usage of nothing" 2
+echo "no file" >wanted
+{ echo "pretc: missing: no such file"; said 17; } >wanted_err; front "no file" 17 rules missing
+{ echo "pretc: missing: no such file"; said 17; } >wanted_err; front "no certificate" 17 check "$top/examples/counter.im" missing -
 
 # the image, the certificate and the checker's no, on the counter
 image="$top/examples/counter.im"; cert="$top/examples/counter.cert"
@@ -145,7 +226,7 @@ no() {
   sed "$6" "$cert" >bad
   echo "no $rule at $at level 0 needed $needed given $given" >wanted
   {
-    echo "pretc: bad: $rule at place $at"
+    if [ "$rule" = A7 ]; then echo "pretc: bad: A7"; else echo "pretc: bad: $rule at place $at"; fi
     [ "$rule" = A7 ] || echo "  code place $at: $(sed -n "$((at + 3))p" "$image")  $(sed -n "$((at + 1))p" words)"
     echo "  line $number of the certificate: $(sed -n "${number}p" bad)"
     [ "$rule" = A1 ] || echo "  needed $needed, given ${given/#-/none}"
@@ -186,6 +267,13 @@ printf 'alu = 0\nnop = 1\n' >costs
 stand_in "costs C1"
 { echo "pretc: costs: C1"; said C1; } >wanted_err
 aside C1 6 check "$image" "$cert" costs
+printf 'alu = 1\nmul : 3\n' >costs
+{ marked costs 2 C1 "mul : 3"; said C1; } >wanted_err
+aside "C1, a line" 6 check "$image" "$cert" costs
+printf 'alu = 1\nmul = 3\nalu = 2\n' >costs
+{ marked costs 3 C1 "alu = 2"; said C1; } >wanted_err
+aside "C1, a key twice" 6 check "$image" "$cert" costs
+printf 'alu = 0\nnop = 1\n' >costs
 stand_in "costs C2 cend"
 { echo "pretc: costs: C2 cend"; said C2; } >wanted_err
 aside C2 6 run s.pc costs im ce
@@ -211,10 +299,10 @@ aside T3 7 mean none.pc
 times 1025 ' ' >input
 "$top/tools/explain" ./program 7 0 mean none.pc <input >out 2>err
 [ "$(head -1 err)" = "pretc: the trace, line 1: T4" ] && tail -n 2 err | cmp -s - <(said T4) || wrong "T4: another explanation"
-# where the trace is no file, all four are said
+# where the trace is no file, its line can't be shown
 {
   echo "pretc: a line of the trace is refused; the last line of the output has its rule and its number"
-  for k in 1 2 3 4; do said "T$k"; done
+  echo 'give the trace as a file, with `<`, to have the line shown; docs/rules.md has the rules T1 to T4'
 } >wanted_err
 "$top/tools/explain" ./program 7 0 mean none.pc < <(echo x) >out 2>err
 cmp -s err wanted_err || wrong "a trace from a pipe: another explanation"

@@ -17,7 +17,7 @@ touch repo/crates/low/src/lib.rt
 cat >kit/rt <<'RT'
 #!/bin/sh
 # `rt all check` proves the crates, `rt run -- rules` builds the program and runs it
-[ ! -e "$FAILS" ] || { echo "error: not proved"; exit 1; }
+[ ! -e "$FAILS" ] || { echo "== low status 1 FAILED: 1 not proved"; exit 1; }
 if [ "$1" = all ]; then
   printf 'only=0 proved=0\n== low\nfn low::f: proved\nlogic=proved\n== pretc\nlogic=proved\n== summary\n'
 else

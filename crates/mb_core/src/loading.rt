@@ -85,7 +85,8 @@ impl Model for Loaded {
 
     ghost view = { λ l. l.image };
 
-    ghost invariant = { λ l. (l.words.items ≡ map decoded l.image.code) × IsTable l.image.pauses l.pauses.items × IsTable l.image.forks l.forks.items };
+    ghost invariant = { λ l. (l.words.items ≡ map decoded l.image.code) × IsTable l.image.pauses l.pauses.items ×
+        IsTable l.image.forks l.forks.items };
 }
 
 impl Loaded {

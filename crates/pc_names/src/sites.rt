@@ -198,7 +198,8 @@ fn add_body<'a>(
     body: &'a [Stmt<Word>],
     last: &'a Option<Expr<Word>>,
 ) -> Result<(), Memory>
-    ensures { OnOk result (sites.new.items ≡ sites.old.items ++ sites_of_uses before.now own.now (statements_uses body.now ++ value_uses last.now)) }
+    ensures { OnOk result (sites.new.items ≡
+        sites.old.items ++ sites_of_uses before.now own.now (statements_uses body.now ++ value_uses last.now)) }
 {
     let mut uses = Vec::new(alloc);
     statements(&mut uses, body)?;

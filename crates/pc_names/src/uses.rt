@@ -125,7 +125,10 @@ fn call<'a>(
     function: &'a Word,
     arguments: &'a [Expr<Word>],
 ) -> Result<(), Memory>
-    ensures { OnOk result (uses.new.items ≡ uses.old.items ++ (goal_uses to.now ++ (use_of (Role.Calls (length arguments.now) (is_taken to.now)) function.now ∷ expressions_uses arguments.now))) }
+    ensures { OnOk result (uses.new.items ≡
+        uses.old.items ++
+        (goal_uses to.now ++
+        (use_of (Role.Calls (length arguments.now) (is_taken to.now)) function.now ∷ expressions_uses arguments.now))) }
 {
     goal(uses, to)?;
     let role = Role::Calls {

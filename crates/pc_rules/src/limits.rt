@@ -124,7 +124,8 @@ pub struct Judged {
 
 /// Notes the limits on functions and on the whole program.
 pub fn note_limits(alloc: Global, typed: &Typed, first: First) -> Result<Judged, Memory>
-    ensures found { IfOk result (λ judged. judged.first ≡ first_of first (tall_faults typed.now.functions (heights typed.now.functions) ++ whole_faults typed.now)) }
+    ensures found { IfOk result (λ judged. judged.first ≡
+        first_of first (tall_faults typed.now.functions (heights typed.now.functions) ++ whole_faults typed.now)) }
     ensures sizes { IfOk result (λ judged. AreCounted typed.now judged.sizes) }
 {
     let sizes = counted_sizes(alloc, typed)?;

@@ -10,14 +10,18 @@ ghost use Rattle.pt_base.specs.Reads.{Reads, Anything, NoDigit, Below, IsWord, A
 /// A number is read exactly where it is spelled: alone, where no digit follows it, or with a byte that ends it.
 pub fn numbers_are_exact()
     ensures alone { (limit : ℕ) → limit ≤ 2 ^ 64 → Reads (number_at limit) decimal (Below limit) NoDigit }
-    ensures ended { (ends limit : ℕ) → limit ≤ 2 ^ 64 → is_digit ends ≡ false → Reads (number_then_at ends limit) (number_text ends) (Below limit) Anything }
-    ensures counts { (name : List ℕ) (least limit : ℕ) → limit ≤ 2 ^ 64 → Reads (count_at name least limit) (count_text name) (λ n. (least ≤ n) × (n < limit)) Anything }
+    ensures ended { (ends limit : ℕ) → limit ≤ 2 ^ 64 → is_digit ends ≡ false →
+        Reads (number_then_at ends limit) (number_text ends) (Below limit) Anything }
+    ensures counts { (name : List ℕ) (least limit : ℕ) → limit ≤ 2 ^ 64 →
+        Reads (count_at name least limit) (count_text name) (λ n. (least ≤ n) × (n < limit)) Anything }
 {}
 
 /// Numbers behind their count are read exactly where they are spelled.
 pub fn lists_are_exact()
-    ensures alone { (most limit : ℕ) → most ≤ 2 ^ 64 → limit ≤ 2 ^ 64 → Reads (list_at most limit) list_text (AreNumbers most limit) NoDigit }
-    ensures ended { (ends most limit : ℕ) → most ≤ 2 ^ 64 → limit ≤ 2 ^ 64 → is_digit ends ≡ false → Reads (numbers_at ends most limit) (numbers_text ends) (AreNumbers most limit) Anything }
+    ensures alone { (most limit : ℕ) → most ≤ 2 ^ 64 → limit ≤ 2 ^ 64 →
+        Reads (list_at most limit) list_text (AreNumbers most limit) NoDigit }
+    ensures ended { (ends most limit : ℕ) → most ≤ 2 ^ 64 → limit ≤ 2 ^ 64 → is_digit ends ≡ false →
+        Reads (numbers_at ends most limit) (numbers_text ends) (AreNumbers most limit) Anything }
 {}
 
 /// A word on a line of its own is read exactly where it is spelled, in hexadecimal digits or as a signed number.
@@ -28,7 +32,8 @@ pub fn words_are_exact()
 
 /// So many lines, each with a number, a word or a signed number, are read exactly where they are spelled.
 pub fn lines_are_exact()
-    ensures numbers { (count limit : ℕ) → limit ≤ 2 ^ 64 → Reads (many_at (number_then_at 10 limit) count) (each (number_text 10)) (AreMany count (Below limit)) Anything }
+    ensures numbers { (count limit : ℕ) → limit ≤ 2 ^ 64 →
+        Reads (many_at (number_then_at 10 limit) count) (each (number_text 10)) (AreMany count (Below limit)) Anything }
     ensures words { (count : ℕ) → Reads (many_at word_line_at count) (each word_text) (AreMany count IsWord) Anything }
     ensures signed { (count : ℕ) → Reads (many_at signed_line_at count) (each signed_text) (AreMany count (FitsSigned w32)) Anything }
 {}

@@ -34,7 +34,13 @@ impl Model for MemShelf {
 
     ghost coded = { shelved_code };
 
-    ghost view = { λ s. record { files = from_entries (entries_of s.stored ++ s.first); fails = s.fails; calls = s.calls; load_faults = s.load_faults; store_faults = s.store_faults } };
+    ghost view = { λ s. record {
+      files = from_entries (entries_of s.stored ++ s.first);
+      fails = s.fails;
+      calls = s.calls;
+      load_faults = s.load_faults;
+      store_faults = s.store_faults;
+    } };
 
     ghost invariant = { λ s. (s.load_faults ≤ last) × (s.store_faults ≤ last) };
 }
@@ -185,7 +191,8 @@ impl Shelf for MemShelf {
         ensures cause { HasLoadCause self.old.load_faults self.new.load_faults result }
         ensures store_faults { self.new.store_faults ≡ self.old.store_faults }
         ensures failed_exactly { (result ≡ Err ShelfFault.Failed) ↔ Contains self.old.fails self.old.calls }
-        ensures absent_exactly { (result ≡ Err ShelfFault.Absent) ↔ ((get self.old.files name.now ≡ None) × (¬ Contains self.old.fails self.old.calls)) }
+        ensures absent_exactly { (result ≡ Err ShelfFault.Absent) ↔
+            ((get self.old.files name.now ≡ None) × (¬ Contains self.old.fails self.old.calls)) }
         ensures counted { result ≡ Err ShelfFault.Failed → self.new.load_faults ≡ next self.old.load_faults }
         ensures kept { self.new ≡ record self.old { calls = next self.old.calls; load_faults = self.new.load_faults } }
     {
@@ -210,7 +217,8 @@ impl Shelf for MemShelf {
         ensures load_faults { self.new.load_faults ≡ self.old.load_faults }
         ensures failed_exactly { (result ≡ Err StoreFault.Failed) ↔ Contains self.old.fails self.old.calls }
         ensures counted { result ≡ Err StoreFault.Failed → self.new.store_faults ≡ next self.old.store_faults }
-        ensures kept { self.new ≡ record self.old { files = self.new.files; calls = next self.old.calls; store_faults = self.new.store_faults } }
+        ensures kept { self.new ≡
+            record self.old { files = self.new.files; calls = next self.old.calls; store_faults = self.new.store_faults } }
     {
         if self.is_listed() {
             self.fail_store();

@@ -34,7 +34,8 @@ impl Model for MemSink {
 impl MemSink {
     /// A sink with room for `room` bytes, whose calls of these numbers are to fail.
     pub fn of(alloc: Global, room: usize, fails: Many<u64>) -> Result<MemSink, Memory>
-        ensures { IfOk result (λ s. s ≡ record { written = []; room = room; pushes = 0; sent = true; fails = fails; calls = 0; faults = 0 }) }
+        ensures { IfOk result (λ s. s ≡
+            record { written = []; room = room; pushes = 0; sent = true; fails = fails; calls = 0; faults = 0 }) }
     {
         Ok(MemSink {
             bytes: Vec::with_capacity(alloc, room)?,
@@ -89,7 +90,8 @@ impl Sink for MemSink {
         ensures err { OnErr result (self.new.written ≡ self.old.written) }
         ensures pushes { OnOk result (self.new.pushes ≡ next self.old.pushes) }
         ensures cause { HasCause self.old.faults self.new.faults result }
-        ensures failed_exactly { IsErr result ↔ (Contains self.old.fails self.old.calls ⊎ (self.old.room < length self.old.written + length bytes.now)) }
+        ensures failed_exactly { IsErr result ↔
+            (Contains self.old.fails self.old.calls ⊎ (self.old.room < length self.old.written + length bytes.now)) }
         ensures counted { Counts self.old.faults self.new.faults result }
         ensures waits { OnOk result (self.new.sent ≡ false) }
         ensures failed { OnErr result (self.new ≡ record self.old { calls = next self.old.calls; faults = self.new.faults }) }

@@ -85,7 +85,8 @@ impl TraceReader {
     pub fn next<I: Source>(&mut self, input: &mut I, row: &mut [i32]) -> Result<bool, TraceFault>
         requires { length row.old ≡ self.old.width }
         ensures fault_again { IfSome self.old.fault (λ f. (result ≡ Err f) × (self.new ≡ self.old) × (input.new ≡ input.old)) }
-        ensures end_again { self.old.fault ≡ None → self.old.ended ≡ true → (result ≡ Ok false) × (self.new ≡ self.old) × (input.new ≡ input.old) }
+        ensures end_again { self.old.fault ≡ None → self.old.ended ≡ true →
+            (result ≡ Ok false) × (self.new ≡ self.old) × (input.new ≡ input.old) }
         ensures answer { self.old.fault ≡ None → self.old.ended ≡ false
             → spec.Next self.old self.new (I.told input.old) (I.told input.new) row.new result }
         ensures stays { Stays (I.told input.old).faults (I.told input.new).faults result }

@@ -42,7 +42,8 @@ impl Index {
     // Puts a number at a place, if it isn't behind the last one.
     fn put(&mut self, place: usize, number: usize)
         requires { place < 65536 → number < 65536 }
-        ensures { (other : ℕ) → other < 65536 → number_at self.new other ≡ (if place == other then Some number else number_at self.old other) }
+        ensures { (other : ℕ) → other < 65536 →
+            number_at self.new other ≡ (if place == other then Some number else number_at self.old other) }
     {
         if place < MOST_PLACES {
             self.numbers[place] = number as u32 + 1;

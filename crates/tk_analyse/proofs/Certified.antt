@@ -1,7 +1,5 @@
 -- What comes out is the certificate of the program, and it is accepted.
-use Rattle.std.proofs.Common.{◌≡◌, ℕ, zero, suc, ◌+◌, ◌≤◌, ◌++◌, List, [], ◌∷◌, map, flat_map, length, Option, refl, sym, ap, ◌∙◌, subst, arith}
-use Rattle.std.specs.List.{range_with_len}
-use Rattle.std.proofs.lemmas.List.{length-map}
+use Rattle.std.proofs.Common.{◌≡◌, ℕ, ◌+◌, ◌≤◌, ◌++◌, List, [], ◌∷◌, flat_map, length, Option, refl, sym, ap, ◌∙◌, subst}
 use Rattle.mb_isa.specs.Costs.{IsCosts}
 use Rattle.pt_image.specs.declared.Parts.{Parts}
 use Rattle.pt_image.specs.Ranges.{IsImage}
@@ -11,7 +9,6 @@ use Rattle.tk_cert.specs.declared.cert.Walk.{Walk}
 use Rattle.tk_cert.specs.declared.cert.CertParts.{CertParts}
 use Rattle.tk_cert.specs.Shapes.{IsCert}
 use Rattle.tk_cert.specs.Form.{IsWalk, IsInForm}
-use Rattle.tk_paths.specs.declared.view.Side.{Side}
 use Rattle.tk_paths.specs.Sums.{greatest}
 use Rattle.tk_paths.specs.Bounded.{IsAcceptedFor, FreeTicksAreBounded, RunsAreBounded}
 use Rattle.tk_paths.specs.Walks.{most_cycles, IsWorst, IsCostOf}
@@ -19,6 +16,8 @@ use Rattle.tk_paths.specs.Greatest.{beginnings}
 use Rattle.tk_paths.specs.Programs.{Section, OfThread, OfRoutine, OfCondition, Unused, Program, IsProgram, pair_from, starts_from, certificate, ProgramsAreAccepted, ProgramBoundsAreWorst}
 use Rattle.tk_paths.specs.Programs as programs
 use Rattle.tk_paths.specs.Counts.{AreSmall, CertificatesAreInForm}
+use Rattle.tk_paths.specs.Choices.{plan}
+use Rattle.tk_paths.specs.Dearest.{dearest_walk, find_piece, walk_of, WalksCostTheBound, WalksAreInForm}
 use Rattle.tk_paths.specs.declared.Section.{Section as KeptSection}
 use Rattle.tk_paths.specs.Trees.{codes_of, read_sections, program_of_sections}
 use Rattle.tk_paths.specs.Told.{told_by, slots_from}
@@ -46,7 +45,7 @@ module _ (image : Parts) (costs : List ℕ) (program : Program) where
   weights-same (OfCondition p n q) = refl
   weights-same (Unused n) = refl
 
-  lines-are : (starts : List (Option ℕ × Option ℕ)) (lines : List Line) → starts ≡ starts_from image costs 0 program.threads →
+  pub lines-are : (starts : List (Option ℕ × Option ℕ)) (lines : List Line) → starts ≡ starts_from image costs 0 program.threads →
       lines ≡ flat_map (lines_of image costs (pair_from 0 starts)) program.sections → lines ≡ programs.lines image costs program
   lines-are starts lines s e =
       e ∙ ap (λ (l : List (Option ℕ × Option ℕ)). flat_map (lines_of image costs (pair_from 0 l)) program.sections) s
@@ -104,19 +103,57 @@ module _ (image : Parts) (costs : List ℕ) (program : Program) where
         reached = reached;
       }
 
-  pub certifies : ProgramsAreAccepted → ProgramBoundsAreWorst → FreeTicksAreBounded → RunsAreBounded → IsImage image → IsCosts costs →
+  -- the walk costs the bound, and is one of the file's form
+  within : (parts : CertParts) → parts ≡ certificate image costs program parts.walk → parts.bound ≤ most_cycles →
+      (certificate image costs program (walk_of image costs program)).bound ≤ most_cycles
+  within parts e low = let Q : ℕ → Type 0 = λ n. n ≤ most_cycles in subst Q (ap (λ (x : CertParts). x.bound) e) low
+
+  reached : WalksCostTheBound → IsImage image → IsCosts costs → IsProgram image program → (parts : CertParts) →
+      parts ≡ certificate image costs program parts.walk → parts.bound ≤ most_cycles → parts.walk ≡ walk_of image costs program →
+      IsCostOf image costs parts.walk parts.bound
+  reached law i c p parts e low w =
+      let P : Walk → Type 0 = λ x. IsCostOf image costs x parts.bound in
+      let Q : ℕ → Type 0 = λ n. IsCostOf image costs (walk_of image costs program) n in
+      subst P (sym w) (subst Q (sym (ap (λ (x : CertParts). x.bound) e)) (law image program costs i c p (within parts e low)))
+
+  pub certifies : ProgramsAreAccepted → ProgramBoundsAreWorst → FreeTicksAreBounded → RunsAreBounded → WalksCostTheBound → IsImage image → IsCosts costs →
       IsProgram image program → (parts cert : CertParts) → cert ≡ parts → parts ≡ certificate image costs program parts.walk →
-      parts.bound ≤ most_cycles → IsCostOf image costs parts.walk parts.bound → Certifies image costs cert
-  certifies law worst free runs i c p parts cert same e low reached =
+      parts.bound ≤ most_cycles → parts.walk ≡ walk_of image costs program → Certifies image costs cert
+  certifies law worst free runs attained i c p parts cert same e low w =
       let P : CertParts → Type 0 = λ x. Certifies image costs x in
-      subst P (sym same) (certifies-parts law worst free runs i c p parts e low reached)
+      subst P (sym same) (certifies-parts law worst free runs i c p parts e low (reached attained i c p parts e low w))
+
+  walk-form : WalksAreInForm → IsImage image → IsCosts costs → IsProgram image program → (parts : CertParts) →
+      parts ≡ certificate image costs program parts.walk → parts.bound ≤ most_cycles → parts.walk ≡ walk_of image costs program → IsWalk parts.walk
+  walk-form law i c p parts e low w =
+      let P : Walk → Type 0 = λ x. IsWalk x in
+      subst P (sym w) (law image program costs i c p (within parts e low))
+
+  pub has_walk : WalksAreInForm → IsImage image → IsCosts costs → IsProgram image program → (parts cert : CertParts) → cert ≡ parts →
+      parts ≡ certificate image costs program parts.walk → parts.bound ≤ most_cycles → parts.walk ≡ walk_of image costs program → IsWalk cert.walk
+  has_walk law i c p parts cert same e low w =
+      let P : CertParts → Type 0 = λ x. IsWalk x.walk in
+      subst P (sym same) (walk-form law i c p parts e low w)
 
   -- it is in form where the counts are small
-  pub in_form : CertificatesAreInForm → IsImage image → IsCosts costs → IsProgram image program → (parts cert : CertParts) → cert ≡ parts →
-      parts ≡ certificate image costs program parts.walk → IsWalk parts.walk → AreSmall image program → IsInForm cert
-  in_form law i c p parts cert same e w small =
+  pub in_form : CertificatesAreInForm → WalksAreInForm → IsImage image → IsCosts costs → IsProgram image program → (parts cert : CertParts) → cert ≡ parts →
+      parts ≡ certificate image costs program parts.walk → parts.bound ≤ most_cycles → parts.walk ≡ walk_of image costs program →
+      AreSmall image program → IsInForm cert
+  in_form law walks i c p parts cert same e low w small =
       let P : CertParts → Type 0 = λ x. IsInForm x in
-      subst P (sym (same ∙ e)) (law image program costs parts.walk i c p small w)
+      subst P (sym (same ∙ e)) (law image program costs parts.walk i c p small (walk-form walks i c p parts e low w))
+
+  -- the walk that is told of these lists is that of the program
+  pub walk_told : (bound other : ℕ) (lines shown : List Line) (weights : List (ℕ × ℕ)) (bounds seen : List (Option ℕ × Option ℕ)) (walk : Walk) →
+      listed bound lines weights bounds walk ≡ certificate image costs program walk → other ≡ bound → shown ≡ lines → seen ≡ bounds →
+      walk ≡ dearest_walk image (told_by shown seen) costs (plan image (told_by shown seen) costs (find_piece program) other) →
+      walk ≡ walk_of image costs program
+  walk_told bound other lines shown weights bounds seen walk e b l s w =
+      let by : ℕ → List Line → List (Option ℕ × Option ℕ) → Walk =
+      λ n x y. dearest_walk image (told_by x y) costs (plan image (told_by x y) costs (find_piece program) n) in
+      w ∙ ap (λ (n : ℕ). by n shown seen) (b ∙ ap (λ (x : CertParts). x.bound) e)
+      ∙ ap (λ (x : List Line). by (certificate image costs program walk).bound x seen) (l ∙ ap (λ (x : CertParts). x.lines) e)
+      ∙ ap (λ (y : List (Option ℕ × Option ℕ)). by (certificate image costs program walk).bound (certificate image costs program walk).lines y) (s ∙ ap (λ (x : CertParts). x.slot_bounds) e)
 
 -- the lists that are made, as they were handed on, are those of the program
 pub made_is : (image : Parts) (costs : List ℕ) (kept seen : List KeptSection) (starts shown : List (Option ℕ × Option ℕ)) (ml il ol sl bl : List Line)

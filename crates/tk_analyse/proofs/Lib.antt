@@ -1,2 +1,7 @@
 pub mod Certified
-pub mod Frees
+pub mod CodeRooms
+pub mod Sums
+pub mod StoodLaws
+pub mod PointLaws
+pub mod BegunLaws
+pub mod FirstLaws

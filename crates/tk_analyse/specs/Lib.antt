@@ -1,1 +1,4 @@
 pub mod Certified
+pub mod Stood
+pub mod Begun
+pub mod Points

@@ -3,9 +3,9 @@ use Rattle.std.proofs.Common.{◌≡◌, ℕ, suc, ◌+◌, ◌*◌, ◌++◌, L
 use Rattle.mb_isa.specs.declared.Class.TheVariants as class
 use Rattle.pt_image.specs.declared.Parts.{Parts}
 use Rattle.tk_cert.specs.declared.cert.Line.{Line}
-use Rattle.tk_paths.specs.Regions.{Region, Words, Then, Choice, Counted, Repeated, Calling, to, behind, word_place, through, tested_turn, plain_turn}
+use Rattle.tk_paths.specs.Regions.{Region, Choice, Counted, Repeated, to, behind, word_place, through, tested_turn, plain_turn}
 use Rattle.tk_paths.specs.Numbers.{Kind, Numbers, after, passing, jumping, branched, at_next, inside, line, unit_lines, test_lines, jump_lines, region_lines, region_weights, cost}
-use Rattle.tk_paths.specs.Trees.{nowhere, regions_from}
+use Rattle.tk_paths.specs.Trees.{regions_from}
 
 -- lists that are put in front of one another
 pub four : {A : Type 0} → (a b c d old : List A) → a ++ (b ++ (c ++ (d ++ old))) ≡ a ++ b ++ c ++ d ++ old

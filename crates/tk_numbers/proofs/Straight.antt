@@ -1,8 +1,7 @@
 -- Units by the places where they begin are those that stand from a place on.
-use Rattle.std.proofs.Common.{◌≡◌, ℕ, zero, suc, ◌+◌, ◌++◌, List, [], ◌∷◌, refl, ap, sym, ◌∙◌, ◌-◌, ◌<◌, append_assoc, add_assoc, arith}
+use Rattle.std.proofs.Common.{◌≡◌, ℕ, zero, suc, ◌+◌, ◌++◌, List, [], ◌∷◌, refl, ap, sym, ◌∙◌, ◌-◌, ◌<◌, ◌≤◌, append_assoc, add_assoc, arith}
 use mathlib.Core.Path.{ap₂}
 use Rattle.pt_image.specs.declared.Parts.{Parts}
-use Rattle.tk_cert.specs.declared.cert.Line.{Line}
 use Rattle.tk_paths.specs.Regions.{behind, unit_word, extra, word_cost, units_cost}
 use Rattle.tk_paths.specs.Numbers.{Kind, Numbers, after, unit_lines, units_lines}
 use Rattle.tk_numbers.specs.Units.{places_from, charged, lines_at}
@@ -37,3 +36,12 @@ charge_step image costs n k p q total more x u all h em ex eu eq e =
     ap₂ (λ t a. t + units_cost image costs a r) (em ∙ ap₂ (λ a b. total + (a + b)) ex eu) eq
     ∙ add_assoc total (extra image costs p + word_cost image costs (unit_word image p)) (units_cost image costs (behind image p) r)
     ∙ ap (λ m. total + units_cost image costs p m) (sym l) ∙ e
+
+-- what is charged so far, and one unit more, is no more than all
+pub charge_fits : (image : Parts) (costs : List ℕ) (n k p total x u all b : ℕ) → k < n → x ≡ extra image costs p → u ≡ word_cost image costs (unit_word image p) →
+    total + units_cost image costs p (n - k) ≡ all → all ≤ b → total + (x + u) ≤ b
+charge_fits image costs n k p total x u all b h ex eu e l =
+    let r : ℕ = n - (k + 1) in
+    let s : n - k ≡ suc r = omega (arith, h) in
+    let f = ap (units_cost image costs p) s in
+    omega (arith, f, ex, eu, e, l)

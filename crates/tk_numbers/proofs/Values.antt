@@ -1,5 +1,5 @@
 -- What routines cost, by their numbers.
-use Rattle.std.proofs.Common.{◌≡◌, ℕ, List, [], ◌∷◌, map, zero, suc, ◌+◌, slice_index_or, drop, length, refl, ap, sym, ◌∙◌, subst}
+use Rattle.std.proofs.Common.{◌≡◌, ℕ, List, [], ◌∷◌, map, zero, suc, ◌+◌, slice_index_or, refl, ap, sym, ◌∙◌}
 use Rattle.pt_image.specs.declared.Parts.{Parts}
 use Rattle.tk_paths.specs.declared.Region.{Region as Kept}
 use Rattle.tk_paths.specs.declared.Region.TheVariants as kept

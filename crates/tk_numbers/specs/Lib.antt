@@ -1,3 +1,4 @@
 pub mod Charges
 pub mod Units
 pub mod Nexts
+pub mod Routines

@@ -1,7 +1,9 @@
 //! What the words of units are charged.
 
 ghost use Rattle.std.specs.Prelude.{◌≡◌, ◌≤◌, ◌<◌, ◌+◌, ◌*◌, ◌^◌, Some, IfOk};
+ghost use Rattle.tk_paths.specs.Walks.{most_cycles};
 ghost use Rattle.tk_paths.specs.Words.{instr_at, read_instr, word_of};
+ghost use Rattle.tk_paths.specs.Faults.{OnlyMemory};
 ghost use Rattle.tk_paths.specs.Regions.{half, half_cost, word_place, behind, unit_word, extra, word_cost, units_cost};
 
 use mb_isa::{Class, Costs, Instr, class, decode, takes_upper};
@@ -135,6 +137,7 @@ pub fn unit_cost(image: &Image, costs: &Costs, place: usize) -> u64
 pub fn units_cost(image: &Image, costs: &Costs, place: usize, count: u32) -> Result<u64, Fault>
     requires { place < 2 ^ 36 }
     ensures exact { IfOk result (λ n. n ≡ units_cost image.now costs.now place count) }
+    ensures fits { units_cost image.now costs.now place count ≤ most_cycles → OnlyMemory result }
 {
     let mut total = 0;
     let mut at = place;

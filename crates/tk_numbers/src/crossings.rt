@@ -1,10 +1,11 @@
 //! What it costs to cross a region, from what it costs to cross those that it is made of.
 
-ghost use Rattle.std.specs.Prelude.{◌≡◌, ◌+◌, ◌*◌, suc, max, IfOk};
-ghost use Rattle.mb_isa.specs.declared.Class.TheVariants.{Jump, Taken, Untaken, Loop, Next, Call, Ret};
-ghost use Rattle.tk_paths.specs.Regions.{cost, extra, to, units_cost, tested_loop, plain_turn};
+ghost use Rattle.std.specs.Prelude.{◌≡◌, ◌≤◌, IfOk};
+ghost use Rattle.tk_paths.specs.Walks.{most_cycles};
+ghost use Rattle.tk_paths.specs.Regions.{tested_loop};
 ghost use Rattle.tk_paths.specs.Trees.{read_region};
-ghost use Rattle.tk_numbers.specs.Charges.{routines_in};
+ghost use Rattle.tk_paths.specs.Faults.{OnlyMemory};
+ghost use Rattle.tk_numbers.specs.Charges.{routines_in, choice_cost, counted_cost, repeated_cost, calling_cost};
 
 use crate::charges::extra;
 use crate::turns::{jump_cost, leaving, plain_turn, tested_turn, testing_cost};
@@ -23,10 +24,8 @@ pub fn choice_cost(
     untaken: u64,
     taken: u64,
 ) -> Result<u64, Fault>
-    ensures { IfOk result (λ n. n ≡
-        (units_cost image.now costs.now from count + extra image.now costs.now branch)
-        + max (cost image.now costs.now Untaken + (untaken + (extra image.now costs.now jump + cost image.now costs.now Jump)))
-        (cost image.now costs.now Taken + taken)) }
+    ensures exact { IfOk result (λ n. n ≡ choice_cost image.now costs.now from count branch jump untaken taken) }
+    ensures fits { choice_cost image.now costs.now from count branch jump untaken taken ≤ most_cycles → OnlyMemory result }
 {
     let back = sum(untaken, jump_cost(image, costs, jump))?;
     let first = sum(costs.cost(Class::Untaken), back)?;
@@ -47,7 +46,10 @@ fn tested_loop(
     body: &Region,
     through: u64,
 ) -> Result<u64, Fault>
-    ensures { IfOk result (λ n. n ≡ tested_loop image.now costs.now from turns count branch (read_region (routines_in before.now) body.now) through) }
+    ensures exact { IfOk result (λ n. n ≡
+        tested_loop image.now costs.now from turns count branch (read_region (routines_in before.now) body.now) through) }
+    ensures fits { let tree = read_region (routines_in before.now) body.now in
+        tested_loop image.now costs.now from turns count branch tree through ≤ most_cycles → OnlyMemory result }
 {
     let turn = tested_turn(image, costs, before, from, count, branch, body, through)?;
     let all = product(u64::from(turns) + 1, turn)?;
@@ -69,8 +71,10 @@ pub fn counted_cost(
     body: &Region,
     through: u64,
 ) -> Result<u64, Fault>
-    ensures { IfOk result (λ n. n ≡ (extra image.now costs.now from + cost image.now costs.now Loop)
-        + tested_loop image.now costs.now from turns count branch (read_region (routines_in before.now) body.now) through) }
+    ensures exact { IfOk result (λ n. n ≡
+        counted_cost image.now costs.now from turns count branch (read_region (routines_in before.now) body.now) through) }
+    ensures fits { let tree = read_region (routines_in before.now) body.now in
+        counted_cost image.now costs.now from turns count branch tree through ≤ most_cycles → OnlyMemory result }
 {
     let opening = extra(image, costs, from as usize) + costs.cost(Class::Loop);
     let turning = tested_loop(
@@ -89,8 +93,10 @@ pub fn repeated_cost(
     body: &Region,
     through: u64,
 ) -> Result<u64, Fault>
-    ensures { IfOk result (λ n. n ≡ (extra image.now costs.now from + cost image.now costs.now Loop)
-        + (suc turns * plain_turn image.now costs.now (read_region (routines_in before.now) body.now) through + cost image.now costs.now Next)) }
+    ensures exact { IfOk result (λ n. n ≡
+        repeated_cost image.now costs.now from turns (read_region (routines_in before.now) body.now) through) }
+    ensures fits { let tree = read_region (routines_in before.now) body.now in
+        repeated_cost image.now costs.now from turns tree through ≤ most_cycles → OnlyMemory result }
 {
     let opening = extra(image, costs, from as usize) + costs.cost(Class::Loop);
     let turn = plain_turn(image, costs, before, body, through)?;
@@ -100,7 +106,8 @@ pub fn repeated_cost(
 
 /// A call of a routine of this cost.
 pub fn calling_cost(image: &Image, costs: &Costs, routine: u64) -> Result<u64, Fault>
-    ensures { IfOk result (λ n. n ≡ cost image.now costs.now Call + (routine + cost image.now costs.now Ret)) }
+    ensures exact { IfOk result (λ n. n ≡ calling_cost image.now costs.now routine) }
+    ensures fits { calling_cost image.now costs.now routine ≤ most_cycles → OnlyMemory result }
 {
     let _image = image;
     sum(

@@ -1,11 +1,13 @@
 //! The lines of a choice and of a bounded loop, but for those of the regions that they are made of.
 
-ghost use Rattle.std.specs.Prelude.{◌≡◌, ◌<◌, ◌+◌, ◌*◌, ◌^◌, ◌++◌, ◌∷◌, suc, max, IfOk};
-ghost use Rattle.mb_isa.specs.declared.Class.TheVariants.{Call, Drop, Jump, Loop, Next, Ret, Taken, Untaken};
-ghost use Rattle.tk_paths.specs.Regions.{behind, extra, plain_turn, tested_loop, tested_turn, units_cost, word_place};
+ghost use Rattle.std.specs.Prelude.{◌≡◌, ◌≤◌, ◌<◌, ◌+◌, ◌*◌, ◌^◌, ◌++◌, ◌∷◌, suc, IfOk};
+ghost use Rattle.mb_isa.specs.declared.Class.TheVariants.{Drop, Loop};
+ghost use Rattle.tk_paths.specs.Walks.{most_cycles};
+ghost use Rattle.tk_paths.specs.Regions.{behind, plain_turn, tested_turn, word_place};
 ghost use Rattle.tk_paths.specs.Numbers.{after, branched, cost, inside, jump_lines, jumping, line, test_lines, unit_lines};
 ghost use Rattle.tk_paths.specs.Trees.{read_region};
-ghost use Rattle.tk_numbers.specs.Charges.{routines_in};
+ghost use Rattle.tk_paths.specs.Faults.{OnlyMemory, AllSmall, HasRoom};
+ghost use Rattle.tk_numbers.specs.Charges.{routines_in, testing_cost, choice_cost, counted_cost, repeated_cost, calling_cost, opening_cost};
 ghost use Rattle.tk_paths.specs.PlaceKinds.{kind_of};
 ghost use Rattle.tk_paths.specs.Levels.{numbers_of};
 
@@ -29,7 +31,8 @@ fn branch_of(
     untaken: &Levels,
     taken: &Levels,
 ) -> Result<Levels, Fault>
-    ensures { IfOk result (λ l. numbers_of l ≡ branched image.now costs.now (numbers_of untaken.now) (numbers_of taken.now)) }
+    ensures exact { IfOk result (λ l. numbers_of l ≡ branched image.now costs.now (numbers_of untaken.now) (numbers_of taken.now)) }
+    ensures fits { AllSmall (branched image.now costs.now (numbers_of untaken.now) (numbers_of taken.now)) → OnlyMemory result }
 {
     let _image = image;
     let at = branched(alloc, costs, untaken, taken)?;
@@ -51,8 +54,11 @@ pub fn put_test(
 ) -> Result<(), Fault>
     requires { place < 2 ^ 36 }
     ensures lines { IfOk result (λ done. made.new.lines ≡
-        test_lines image.now costs.now (kind_of kind.now) place count branch (branched image.now costs.now (numbers_of untaken.now) (numbers_of taken.now)) ++ made.old.lines) }
+        test_lines image.now costs.now (kind_of kind.now) place count branch
+        (branched image.now costs.now (numbers_of untaken.now) (numbers_of taken.now)) ++ made.old.lines) }
     ensures weights { made.new.weights ≡ made.old.weights }
+    ensures fits { let at = branched image.now costs.now (numbers_of untaken.now) (numbers_of taken.now) in
+        HasRoom (testing_cost image.now costs.now place count branch) at → OnlyMemory result }
 {
     let at = branch_of(alloc, image, costs, untaken, taken)?;
     test_lines(alloc, image, costs, kind, place, count, branch, &at, made)
@@ -72,9 +78,11 @@ fn put_loop(
     made: &mut Made,
 ) -> Result<(), Fault>
     ensures lines { IfOk result (λ done. made.new.lines ≡
-        unit_lines image.now costs.now (kind_of kind.now) from (after (cost image.now costs.now Loop + suc turns * weight) (numbers_of next.now))
+        unit_lines image.now costs.now (kind_of kind.now) from
+        (after (cost image.now costs.now Loop + suc turns * weight) (numbers_of next.now))
         ++ line (kind_of inner.now) (numbers_of next.now) ∷ made.old.lines) }
     ensures weights { IfOk result (λ done. made.new.weights ≡ (word_place image.now from, weight) ∷ made.old.weights) }
+    ensures fits { HasRoom (opening_cost image.now costs.now from turns weight) (numbers_of next.now) → OnlyMemory result }
 {
     put_line(alloc, inner, next, made)?;
     let all = product(u64::from(turns) + 1, weight)?;
@@ -100,14 +108,14 @@ pub fn put_choice(
     behind: &Levels,
     made: &mut Made,
 ) -> Result<u64, Fault>
-    ensures exact { IfOk result (λ n. n ≡
-        (units_cost image.now costs.now from count + extra image.now costs.now branch)
-        + max (cost image.now costs.now Untaken + (first + (extra image.now costs.now jump + cost image.now costs.now Jump)))
-        (cost image.now costs.now Taken + second)) }
+    ensures exact { IfOk result (λ n. n ≡ choice_cost image.now costs.now from count branch jump first second) }
     ensures lines { IfOk result (λ n. made.new.lines ≡
         test_lines image.now costs.now (kind_of kind.now) from count branch
         (branched image.now costs.now (after first (numbers_of back.now)) (after second (numbers_of behind.now))) ++ made.old.lines) }
     ensures weights { made.new.weights ≡ made.old.weights }
+    ensures fits { let at = branched image.now costs.now (after first (numbers_of back.now)) (after second (numbers_of behind.now)) in
+        choice_cost image.now costs.now from count branch jump first second ≤ most_cycles
+        → HasRoom (testing_cost image.now costs.now from count branch) at → OnlyMemory result }
 {
     let untaken = after(alloc, first, back)?;
     let taken = after(alloc, second, behind)?;
@@ -129,8 +137,10 @@ pub fn put_jump(
     made: &mut Made,
 ) -> Result<Levels, Fault>
     ensures numbers { IfOk result (λ l. numbers_of l ≡ jumping image.now costs.now jump (numbers_of behind.now)) }
-    ensures lines { IfOk result (λ l. made.new.lines ≡ jump_lines image.now costs.now (kind_of kind.now) jump (numbers_of behind.now) ++ made.old.lines) }
+    ensures lines { IfOk result (λ l. made.new.lines ≡
+        jump_lines image.now costs.now (kind_of kind.now) jump (numbers_of behind.now) ++ made.old.lines) }
     ensures weights { made.new.weights ≡ made.old.weights }
+    ensures fits { AllSmall (jumping image.now costs.now jump (numbers_of behind.now)) → OnlyMemory result }
 {
     jump_lines(alloc, image, costs, kind, jump, behind, made)?;
     jumping(alloc, image, costs, jump, behind)
@@ -146,8 +156,10 @@ pub fn put_drop(
     made: &mut Made,
 ) -> Result<Levels, Fault>
     ensures numbers { IfOk result (λ l. numbers_of l ≡ after (cost image.now costs.now Drop) (numbers_of behind.now)) }
-    ensures lines { IfOk result (λ l. made.new.lines ≡ line (kind_of inner.now) (after (cost image.now costs.now Drop) (numbers_of behind.now)) ∷ made.old.lines) }
+    ensures lines { IfOk result (λ l. made.new.lines ≡
+        line (kind_of inner.now) (after (cost image.now costs.now Drop) (numbers_of behind.now)) ∷ made.old.lines) }
     ensures weights { made.new.weights ≡ made.old.weights }
+    ensures fits { AllSmall (after (cost image.now costs.now Drop) (numbers_of behind.now)) → OnlyMemory result }
 {
     let _image = image;
     let drop = after(alloc, costs.cost(Class::Drop), behind)?;
@@ -165,10 +177,11 @@ pub fn put_call(
     behind: &Levels,
     made: &mut Made,
 ) -> Result<u64, Fault>
-    ensures exact { IfOk result (λ n. n ≡ cost image.now costs.now Call + (routine + cost image.now costs.now Ret)) }
+    ensures exact { IfOk result (λ n. n ≡ calling_cost image.now costs.now routine) }
     ensures lines { IfOk result (λ n. made.new.lines ≡
-        line (kind_of kind.now) (after (cost image.now costs.now Call + (routine + cost image.now costs.now Ret)) (numbers_of behind.now)) ∷ made.old.lines) }
+        line (kind_of kind.now) (after (calling_cost image.now costs.now routine) (numbers_of behind.now)) ∷ made.old.lines) }
     ensures weights { made.new.weights ≡ made.old.weights }
+    ensures fits { HasRoom (calling_cost image.now costs.now routine) (numbers_of behind.now) → OnlyMemory result }
 {
     let cost = calling_cost(image, costs, routine)?;
     let at = after(alloc, cost, behind)?;
@@ -178,7 +191,8 @@ pub fn put_call(
 
 /// The kind of a place inside the loop whose unit is at a place.
 pub fn inside_of(alloc: Global, image: &Image, kind: &Kind, from: u32) -> Result<Kind, Fault>
-    ensures { IfOk result (λ inner. kind_of inner ≡ inside (word_place image.now from) (kind_of kind.now)) }
+    ensures exact { IfOk result (λ inner. kind_of inner ≡ inside (word_place image.now from) (kind_of kind.now)) }
+    ensures fits { OnlyMemory result }
 {
     in_loop(alloc, kind, word_place(image, from as usize) as u32)
 }
@@ -203,16 +217,27 @@ pub fn put_counted(
     drop: &Levels,
     made: &mut Made,
 ) -> Result<u64, Fault>
-    ensures exact { IfOk result (λ n. n ≡ (extra image.now costs.now from + cost image.now costs.now Loop)
-        + tested_loop image.now costs.now from turns count branch (read_region (routines_in before.now) body.now) through) }
+    ensures exact { IfOk result (λ n. n ≡
+        counted_cost image.now costs.now from turns count branch (read_region (routines_in before.now) body.now) through) }
     ensures lines { IfOk result (λ n. made.new.lines ≡
         unit_lines image.now costs.now (kind_of kind.now) from
-        (after (cost image.now costs.now Loop + suc turns * tested_turn image.now costs.now from count branch (read_region (routines_in before.now) body.now) through) (numbers_of next.now))
+        (after (cost image.now costs.now Loop + suc turns * tested_turn image.now costs.now from count branch
+        (read_region (routines_in before.now) body.now) through) (numbers_of next.now))
         ++ line (kind_of inner.now) (numbers_of next.now)
-        ∷ test_lines image.now costs.now (kind_of inner.now) (behind image.now from + 1) count branch (branched image.now costs.now (after through (numbers_of back.now)) (numbers_of drop.now))
+        ∷ test_lines image.now costs.now (kind_of inner.now) (behind image.now from + 1) count branch
+        (branched image.now costs.now (after through (numbers_of back.now)) (numbers_of drop.now))
         ++ made.old.lines) }
-    ensures weights { IfOk result (λ n. made.new.weights ≡
-        (word_place image.now from, tested_turn image.now costs.now from count branch (read_region (routines_in before.now) body.now) through) ∷ made.old.weights) }
+    ensures weights { IfOk result (λ n. made.new.weights ≡ (
+      word_place image.now from,
+      tested_turn image.now costs.now from count branch (read_region (routines_in before.now) body.now)
+          through,
+    ) ∷ made.old.weights) }
+    ensures fits { let tree = read_region (routines_in before.now) body.now in
+        let weight = tested_turn image.now costs.now from count branch tree through in
+        let at = branched image.now costs.now (after through (numbers_of back.now)) (numbers_of drop.now) in
+        counted_cost image.now costs.now from turns count branch tree through ≤ most_cycles
+        → HasRoom (opening_cost image.now costs.now from turns weight) (numbers_of next.now)
+        → HasRoom (testing_cost image.now costs.now (behind image.now from + 1) count branch) at → OnlyMemory result }
 {
     let weight = tested_turn(image, costs, before, from, count, branch, body, through)?;
     let test = behind(image, from as usize) + 1;
@@ -223,9 +248,10 @@ pub fn put_counted(
     put_loop(
         alloc, image, costs, kind, inner, from, turns, weight, next, made,
     )?;
-    counted_cost(
+    let cost = counted_cost(
         image, costs, before, from, turns, count, branch, body, through,
-    )
+    )?;
+    Ok(cost)
 }
 
 /// The same of a loop without a test.
@@ -243,14 +269,20 @@ pub fn put_repeated(
     next: &Levels,
     made: &mut Made,
 ) -> Result<u64, Fault>
-    ensures exact { IfOk result (λ n. n ≡ (extra image.now costs.now from + cost image.now costs.now Loop)
-        + (suc turns * plain_turn image.now costs.now (read_region (routines_in before.now) body.now) through + cost image.now costs.now Next)) }
+    ensures exact { IfOk result (λ n. n ≡
+        repeated_cost image.now costs.now from turns (read_region (routines_in before.now) body.now) through) }
     ensures lines { IfOk result (λ n. made.new.lines ≡
         unit_lines image.now costs.now (kind_of kind.now) from
-        (after (cost image.now costs.now Loop + suc turns * plain_turn image.now costs.now (read_region (routines_in before.now) body.now) through) (numbers_of next.now))
+        (after (cost image.now costs.now Loop + suc turns * plain_turn image.now costs.now (read_region (routines_in before.now) body.now)
+        through) (numbers_of next.now))
         ++ line (kind_of inner.now) (numbers_of next.now) ∷ made.old.lines) }
     ensures weights { IfOk result (λ n. made.new.weights ≡
-        (word_place image.now from, plain_turn image.now costs.now (read_region (routines_in before.now) body.now) through) ∷ made.old.weights) }
+        (word_place image.now from, plain_turn image.now costs.now (read_region (routines_in before.now) body.now) through) ∷
+        made.old.weights) }
+    ensures fits { let tree = read_region (routines_in before.now) body.now in
+        let weight = plain_turn image.now costs.now tree through in
+        repeated_cost image.now costs.now from turns tree through ≤ most_cycles
+        → HasRoom (opening_cost image.now costs.now from turns weight) (numbers_of next.now) → OnlyMemory result }
 {
     let weight = plain_turn(image, costs, before, body, through)?;
     put_loop(

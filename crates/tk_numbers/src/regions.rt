@@ -1,8 +1,10 @@
 //! The cost of the dearest way through a region.
 
-ghost use Rattle.std.specs.Prelude.{◌≡◌, IfOk};
+ghost use Rattle.std.specs.Prelude.{◌≡◌, ◌≤◌, IfOk};
+ghost use Rattle.tk_paths.specs.Walks.{most_cycles};
 ghost use Rattle.tk_paths.specs.Regions.{through};
 ghost use Rattle.tk_paths.specs.Trees.{read_region, routine_at};
+ghost use Rattle.tk_paths.specs.Faults.{OnlyMemory};
 ghost use Rattle.tk_numbers.specs.Charges.{routines_in, IsValued};
 
 use crate::charges::units_cost;
@@ -41,7 +43,8 @@ pub fn through(
     region: &Region,
 ) -> Result<u64, Fault>
     requires { IsValued image.now costs.now values.now before.now }
-    ensures { IfOk result (λ n. n ≡ through image.now costs.now (read_region (routines_in before.now) region.now)) }
+    ensures exact { IfOk result (λ n. n ≡ through image.now costs.now (read_region (routines_in before.now) region.now)) }
+    ensures fits { through image.now costs.now (read_region (routines_in before.now) region.now) ≤ most_cycles → OnlyMemory result }
 {
     match region {
         Region::Words { from, count, .. } => units_cost(image, costs, *from as usize, *count),

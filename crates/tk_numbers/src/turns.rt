@@ -1,11 +1,13 @@
 //! What tests, jumps and turns of bounded loops cost.
 
 ghost use Rattle.std.specs.Prelude.{◌≡◌, ◌≤◌, ◌<◌, ◌+◌, ◌^◌, IfOk};
-ghost use Rattle.tk_paths.specs.Regions.{extra, to, units_cost, test_cost, tested_turn, plain_turn, leaving};
+ghost use Rattle.tk_paths.specs.Walks.{most_cycles};
+ghost use Rattle.tk_paths.specs.Regions.{extra, to, test_cost, tested_turn, plain_turn, leaving};
 ghost use Rattle.tk_paths.specs.Regions.{cost};
 ghost use Rattle.tk_paths.specs.Trees.{read_region};
 ghost use Rattle.mb_isa.specs.declared.Class.TheVariants.{Jump};
-ghost use Rattle.tk_numbers.specs.Charges.{routines_in};
+ghost use Rattle.tk_paths.specs.Faults.{OnlyMemory};
+ghost use Rattle.tk_numbers.specs.Charges.{routines_in, testing_cost};
 
 use crate::charges::{behind, extra, units_cost};
 use mb_isa::{Class, Costs};
@@ -45,7 +47,8 @@ pub fn testing_cost(
     branch: u32,
 ) -> Result<u64, Fault>
     requires { place < 2 ^ 36 }
-    ensures { IfOk result (λ n. n ≡ units_cost image.now costs.now place count + extra image.now costs.now branch) }
+    ensures exact { IfOk result (λ n. n ≡ testing_cost image.now costs.now place count branch) }
+    ensures fits { testing_cost image.now costs.now place count branch ≤ most_cycles → OnlyMemory result }
 {
     sum(
         units_cost(image, costs, place, count)?,
@@ -55,7 +58,8 @@ pub fn testing_cost(
 
 // The test of a bounded loop.
 fn test_cost(image: &Image, costs: &Costs, from: u32, count: u32, branch: u32) -> Result<u64, Fault>
-    ensures { IfOk result (λ n. n ≡ test_cost image.now costs.now from count branch) }
+    ensures exact { IfOk result (λ n. n ≡ test_cost image.now costs.now from count branch) }
+    ensures fits { test_cost image.now costs.now from count branch ≤ most_cycles → OnlyMemory result }
 {
     let test = behind(image, from as usize) + 1;
     testing_cost(image, costs, test, count, branch)
@@ -72,7 +76,10 @@ pub fn tested_turn(
     body: &Region,
     through: u64,
 ) -> Result<u64, Fault>
-    ensures { IfOk result (λ n. n ≡ tested_turn image.now costs.now from count branch (read_region (routines_in before.now) body.now) through) }
+    ensures exact { IfOk result (λ n. n ≡
+        tested_turn image.now costs.now from count branch (read_region (routines_in before.now) body.now) through) }
+    ensures fits { let tree = read_region (routines_in before.now) body.now in
+        tested_turn image.now costs.now from count branch tree through ≤ most_cycles → OnlyMemory result }
 {
     let test = sum(
         test_cost(image, costs, from, count, branch)?,
@@ -90,7 +97,9 @@ pub fn plain_turn(
     body: &Region,
     through: u64,
 ) -> Result<u64, Fault>
-    ensures { IfOk result (λ n. n ≡ plain_turn image.now costs.now (read_region (routines_in before.now) body.now) through) }
+    ensures exact { IfOk result (λ n. n ≡ plain_turn image.now costs.now (read_region (routines_in before.now) body.now) through) }
+    ensures fits { plain_turn image.now costs.now (read_region (routines_in before.now) body.now) through ≤ most_cycles →
+        OnlyMemory result }
 {
     let back = sum(through, jump_cost(image, costs, end_of(before, body)))?;
     sum(costs.cost(Class::Next), back)
@@ -104,7 +113,8 @@ pub fn leaving(
     count: u32,
     branch: u32,
 ) -> Result<u64, Fault>
-    ensures { IfOk result (λ n. n ≡ leaving image.now costs.now from count branch) }
+    ensures exact { IfOk result (λ n. n ≡ leaving image.now costs.now from count branch) }
+    ensures fits { leaving image.now costs.now from count branch ≤ most_cycles → OnlyMemory result }
 {
     let test = sum(
         test_cost(image, costs, from, count, branch)?,

@@ -1,10 +1,12 @@
 //! The lines of units, tests and jumps, put in front of those that are made.
 
 ghost use Rattle.std.specs.Prelude.{◌≡◌, ◌<◌, ◌^◌, ◌++◌, ◌∷◌, IfOk};
-ghost use Rattle.tk_paths.specs.Numbers.{line, unit_lines, units_lines, jump_lines, test_lines, jumping};
-ghost use Rattle.tk_paths.specs.Regions.{units_cost};
+ghost use Rattle.tk_paths.specs.Numbers.{after as the_after, line, unit_lines, units_lines, jump_lines, test_lines, jumping};
+ghost use Rattle.tk_paths.specs.Regions.{extra, units_cost};
+ghost use Rattle.tk_paths.specs.Faults.{OnlyMemory, AllSmall, HasRoom};
 ghost use Rattle.tk_paths.specs.PlaceKinds.{kind_of};
 ghost use Rattle.tk_paths.specs.Levels.{numbers_of};
+ghost use Rattle.tk_numbers.specs.Charges.{testing_cost};
 ghost use Rattle.tk_numbers.specs.Units.{places_from, charged, lines_at};
 
 use crate::charges::{behind, extra, half, unit_cost};
@@ -18,6 +20,7 @@ use tk_paths::{Fault, Kind, Levels, Made, after, line, sum};
 pub fn put_line(alloc: Global, kind: &Kind, levels: &Levels, made: &mut Made) -> Result<(), Fault>
     ensures lines { IfOk result (λ done. made.new.lines ≡ line (kind_of kind.now) (numbers_of levels.now) ∷ made.old.lines) }
     ensures weights { made.new.weights ≡ made.old.weights }
+    ensures fits { OnlyMemory result }
 {
     made.put_line(line(alloc, kind, levels)?)
 }
@@ -32,8 +35,10 @@ pub fn unit_lines(
     levels: &Levels,
     made: &mut Made,
 ) -> Result<(), Fault>
-    ensures lines { IfOk result (λ done. made.new.lines ≡ unit_lines image.now costs.now (kind_of kind.now) place (numbers_of levels.now) ++ made.old.lines) }
+    ensures lines { IfOk result (λ done. made.new.lines ≡
+        unit_lines image.now costs.now (kind_of kind.now) place (numbers_of levels.now) ++ made.old.lines) }
     ensures weights { made.new.weights ≡ made.old.weights }
+    ensures fits { AllSmall (the_after (extra image.now costs.now place) (numbers_of levels.now)) → OnlyMemory result }
 {
     put_line(alloc, kind, levels, made)?;
     match half(image, place) {
@@ -49,7 +54,8 @@ pub fn unit_lines(
 #[tactic(auto, using(crate::proofs::Straight::one_more))]
 fn places_from(alloc: Global, image: &Image, place: usize, count: u32) -> Result<Vec<usize>, Fault>
     requires { place < 2 ^ 36 }
-    ensures { IfOk result (λ places. places.items ≡ places_from image.now place count) }
+    ensures exact { IfOk result (λ places. places.items ≡ places_from image.now place count) }
+    ensures fits { OnlyMemory result }
 {
     let mut places = Vec::new(alloc);
     let mut at = place;
@@ -71,8 +77,10 @@ fn lines_at(
     made: &mut Made,
 ) -> Result<u64, Fault>
     ensures charge { IfOk result (λ n. n ≡ charged image.now costs.now places.now) }
-    ensures lines { IfOk result (λ n. made.new.lines ≡ lines_at image.now costs.now (kind_of kind.now) places.now (numbers_of levels.now) ++ made.old.lines) }
+    ensures lines { IfOk result (λ n. made.new.lines ≡
+        lines_at image.now costs.now (kind_of kind.now) places.now (numbers_of levels.now) ++ made.old.lines) }
     ensures weights { made.new.weights ≡ made.old.weights }
+    ensures fits { HasRoom (charged image.now costs.now places.now) (numbers_of levels.now) → OnlyMemory result }
 {
     let mut total = 0;
     let mut i = places.len();
@@ -101,8 +109,10 @@ pub fn units_lines(
 ) -> Result<u64, Fault>
     requires { place < 2 ^ 36 }
     ensures charge { IfOk result (λ n. n ≡ units_cost image.now costs.now place count) }
-    ensures lines { IfOk result (λ n. made.new.lines ≡ units_lines image.now costs.now (kind_of kind.now) place count (numbers_of levels.now) ++ made.old.lines) }
+    ensures lines { IfOk result (λ n. made.new.lines ≡
+        units_lines image.now costs.now (kind_of kind.now) place count (numbers_of levels.now) ++ made.old.lines) }
     ensures weights { made.new.weights ≡ made.old.weights }
+    ensures fits { HasRoom (units_cost image.now costs.now place count) (numbers_of levels.now) → OnlyMemory result }
 {
     let places = places_from(alloc, image, place, count)?;
     lines_at(alloc, image, costs, kind, &places, levels, made)
@@ -116,7 +126,8 @@ pub fn jumping(
     place: usize,
     levels: &Levels,
 ) -> Result<Levels, Fault>
-    ensures { IfOk result (λ l. numbers_of l ≡ jumping image.now costs.now place (numbers_of levels.now)) }
+    ensures exact { IfOk result (λ l. numbers_of l ≡ jumping image.now costs.now place (numbers_of levels.now)) }
+    ensures fits { AllSmall (jumping image.now costs.now place (numbers_of levels.now)) → OnlyMemory result }
 {
     after(alloc, jump_cost(image, costs, place), levels)
 }
@@ -131,8 +142,10 @@ pub fn jump_lines(
     levels: &Levels,
     made: &mut Made,
 ) -> Result<(), Fault>
-    ensures lines { IfOk result (λ done. made.new.lines ≡ jump_lines image.now costs.now (kind_of kind.now) place (numbers_of levels.now) ++ made.old.lines) }
+    ensures lines { IfOk result (λ done. made.new.lines ≡
+        jump_lines image.now costs.now (kind_of kind.now) place (numbers_of levels.now) ++ made.old.lines) }
     ensures weights { made.new.weights ≡ made.old.weights }
+    ensures fits { AllSmall (jumping image.now costs.now place (numbers_of levels.now)) → OnlyMemory result }
 {
     let word = after(alloc, costs.cost(Class::Jump), levels)?;
     unit_lines(alloc, image, costs, kind, place, &word, made)
@@ -151,8 +164,10 @@ pub fn test_lines(
     made: &mut Made,
 ) -> Result<(), Fault>
     requires { place < 2 ^ 36 }
-    ensures lines { IfOk result (λ done. made.new.lines ≡ test_lines image.now costs.now (kind_of kind.now) place count branch (numbers_of levels.now) ++ made.old.lines) }
+    ensures lines { IfOk result (λ done. made.new.lines ≡
+        test_lines image.now costs.now (kind_of kind.now) place count branch (numbers_of levels.now) ++ made.old.lines) }
     ensures weights { made.new.weights ≡ made.old.weights }
+    ensures fits { HasRoom (testing_cost image.now costs.now place count branch) (numbers_of levels.now) → OnlyMemory result }
 {
     let branch = branch as usize;
     unit_lines(alloc, image, costs, kind, branch, levels, made)?;

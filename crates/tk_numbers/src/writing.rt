@@ -4,6 +4,7 @@ ghost use Rattle.std.specs.Prelude.{◌≡◌, ◌++◌, map, IfOk};
 ghost use Rattle.tk_paths.specs.Regions.{through};
 ghost use Rattle.tk_paths.specs.Numbers.{region_lines, region_weights};
 ghost use Rattle.tk_paths.specs.Trees.{read_region, regions_from};
+ghost use Rattle.tk_paths.specs.Faults.{OnlyMemory, HasRoom};
 ghost use Rattle.tk_numbers.specs.Charges.{routines_in, IsValued};
 ghost use Rattle.tk_paths.specs.PlaceKinds.{kind_of};
 ghost use Rattle.tk_paths.specs.Levels.{numbers_of};
@@ -38,8 +39,12 @@ pub fn region_lines(
     requires { IsValued image.now costs.now values.now before.now }
     ensures exact { IfOk result (λ n. n ≡ through image.now costs.now (read_region (routines_in before.now) region.now)) }
     ensures lines { IfOk result (λ n. made.new.lines ≡
-        region_lines image.now costs.now (kind_of kind.now) (read_region (routines_in before.now) region.now) (numbers_of behind.now) ++ made.old.lines) }
-    ensures weights { IfOk result (λ n. made.new.weights ≡ region_weights image.now costs.now (read_region (routines_in before.now) region.now) ++ made.old.weights) }
+        region_lines image.now costs.now (kind_of kind.now) (read_region (routines_in before.now) region.now) (numbers_of behind.now) ++
+        made.old.lines) }
+    ensures weights { IfOk result (λ n. made.new.weights ≡
+        region_weights image.now costs.now (read_region (routines_in before.now) region.now) ++ made.old.weights) }
+    ensures fits { let tree = read_region (routines_in before.now) region.now in
+        HasRoom (through image.now costs.now tree) (numbers_of behind.now) → OnlyMemory result }
 {
     match region {
         Region::Words { from, count, .. } => {
@@ -158,11 +163,15 @@ fn parts_lines(
     made: &mut Made,
 ) -> Result<u64, Fault>
     requires { IsValued image.now costs.now values.now before.now }
-    ensures exact { IfOk result (λ n. n ≡ through image.now costs.now (regions_from 0 (map (read_region (routines_in before.now)) parts.now))) }
+    ensures exact { IfOk result (λ n. n ≡
+        through image.now costs.now (regions_from 0 (map (read_region (routines_in before.now)) parts.now))) }
     ensures lines { IfOk result (λ n. made.new.lines ≡
-        region_lines image.now costs.now (kind_of kind.now) (regions_from 0 (map (read_region (routines_in before.now)) parts.now)) (numbers_of behind.now) ++ made.old.lines) }
+        region_lines image.now costs.now (kind_of kind.now) (regions_from 0 (map (read_region (routines_in before.now)) parts.now))
+        (numbers_of behind.now) ++ made.old.lines) }
     ensures weights { IfOk result (λ n. made.new.weights ≡
         region_weights image.now costs.now (regions_from 0 (map (read_region (routines_in before.now)) parts.now)) ++ made.old.weights) }
+    ensures fits { let all = regions_from 0 (map (read_region (routines_in before.now)) parts.now) in
+        HasRoom (through image.now costs.now all) (numbers_of behind.now) → OnlyMemory result }
 {
     let mut total = 0;
     let mut i = parts.len();

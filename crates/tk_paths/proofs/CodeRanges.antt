@@ -22,19 +22,19 @@ use Rattle.tk_paths.proofs.Ranges.{AreBelow, below-more, below-greater, below-pl
 
 -- ---- what numbers come to, where behind a code none is greater than M, and in the handlers of its aborts none than H
 
-seq-begins : (px wx py wy M H : ℕ) → px ≤ wx → max (px + max (py + M) (wy + H)) (wx + H) ≤ max (px + py + M) (wx + wy + H)
+pub seq-begins : (px wx py wy M H : ℕ) → px ≤ wx → max (px + max (py + M) (wy + H)) (wx + H) ≤ max (px + py + M) (wx + wy + H)
 seq-begins px wx py wy M H h = omega arith
 
-either-begins : (T t px wx py wy jw M H : ℕ) → T + 255 ≤ t → T + (255 + max (max (px + (jw + M)) (wx + H)) (max (py + M) (wy + H))) ≤ max (t + max (px + jw) py + M) (t + max (wx + jw) wy + H)
+pub either-begins : (T t px wx py wy jw M H : ℕ) → T + 255 ≤ t → T + (255 + max (max (px + (jw + M)) (wx + H)) (max (py + M) (wy + H))) ≤ max (t + max (px + jw) py + M) (t + max (wx + jw) wy + H)
 either-begins T t px wx py wy jw M H h = omega arith
 
-turns-begins : (T t pb wb jw M H : ℕ) → T + 255 ≤ t → pb ≤ wb → T + (255 + max M (max (pb + 0) (wb + H))) ≤ max (t + M) (t + wb + jw + H)
+pub turns-begins : (T t pb wb jw M H : ℕ) → T + 255 ≤ t → pb ≤ wb → T + (255 + max M (max (pb + 0) (wb + H))) ≤ max (t + M) (t + wb + jw + H)
 turns-begins T t pb wb jw M H h k = omega arith
 
-ever-begins : (pb wb jw M H : ℕ) → pb ≤ wb → max (pb + 0) (wb + H) ≤ max (0 + M) (wb + jw + H)
+pub ever-begins : (pb wb jw M H : ℕ) → pb ≤ wb → max (pb + 0) (wb + H) ≤ max (0 + M) (wb + jw + H)
 ever-begins pb wb jw M H k = omega arith
 
-guard-begins : (pb wb M H : ℕ) → pb ≤ wb → 255 + max (pb + (255 + M)) (wb + max H M) ≤ max (wb + 510 + M) (wb + 510 + H)
+pub guard-begins : (pb wb M H : ℕ) → pb ≤ wb → 255 + max (pb + (255 + M)) (wb + max H M) ≤ max (wb + 510 + M) (wb + 510 + H)
 guard-begins pb wb M H k = omega arith
 
 -- from any place of a code whose words come to w: on to what is behind it, or to a rest in it, where g aborts more may be inside it
@@ -50,7 +50,7 @@ mul-up (suc g) v w h =
     omega (arith, r, x, y, h)
 
 -- what begins a way in it
-in-reach : (g w e f M H x : ℕ) → x ≤ max (e + M) (f + H) → e ≤ w → f ≤ w + w → x ≤ reaches g w M H
+pub in-reach : (g w e f M H x : ℕ) → x ≤ max (e + M) (f + H) → e ≤ w → f ≤ w + w → x ≤ reaches g w M H
 unfolding reaches
 in-reach g w e f M H x h k l =
     let a : (g + 1) * w ≡ g * w + w = omega arith in
@@ -58,7 +58,7 @@ in-reach g w e f M H x h k l =
     omega (arith, h, k, l, a, b)
 
 -- from a part of v, behind which a way goes on
-goes-on : (g v w e f M N H : ℕ) → v ≤ w → v + e ≤ w → v + f ≤ w + w → N ≤ max (e + M) (f + H) → reaches g v N H ≤ reaches g w M H
+pub goes-on : (g v w e f M N H : ℕ) → v ≤ w → v + e ≤ w → v + f ≤ w + w → N ≤ max (e + M) (f + H) → reaches g v N H ≤ reaches g w M H
 unfolding reaches
 goes-on g v w e f M N H h k l n =
     let m = mul-up g v w h in
@@ -69,7 +69,7 @@ goes-on g v w e f M N H h k l n =
     omega (arith, h, k, l, n, m, a, b, c, d)
 
 -- inside an abort, behind which a rest may lead
-guard-reaches : (g v M H : ℕ) → reaches g v (255 + M) (max H M) ≤ reaches (suc g) (v + 510) M H
+pub guard-reaches : (g v M H : ℕ) → reaches g v (255 + M) (max H M) ≤ reaches (suc g) (v + 510) M H
 unfolding reaches
 guard-reaches g v M H =
     let m = mul-up g v (v + 510) (omega arith) in
@@ -80,7 +80,7 @@ guard-reaches g v M H =
     let d : (suc g + 2) * w ≡ g * w + (w + w + w) = omega arith in
     omega (arith, m, a, b, c, d)
 
-eight-reach : (w : ℕ) → reaches 8 w 255 0 ≤ 10 * w + 255
+pub eight-reach : (w : ℕ) → reaches 8 w 255 0 ≤ 10 * w + 255
 unfolding reaches
 eight-reach w = omega arith
 
@@ -163,7 +163,7 @@ module _ (image : Parts) (costs : List ℕ) (small : (c : Class) → cost_of cos
       later other i = second-below (if (abort_at image x.0).weak then on_side other (Some (x.1)) else None) (handled image costs other aborts i) (f other (suc i))
 
   -- inside one abort more, behind which these numbers come
-  abort-handles : (H M j : ℕ) (aborts : List Handler) (V : Numbers) → Handles H aborts → AreBelow M V → Handles (max H M) (with_abort image costs aborts j V)
+  pub abort-handles : (H M j : ℕ) (aborts : List Handler) (V : Numbers) → Handles H aborts → AreBelow M V → Handles (max H M) (with_abort image costs aborts j V)
   abort-handles H M j aborts V h f =
       handles-with (max H M) aborts (j, level V (length aborts)) (handles-wider H (max H M) aborts (omega arith) h)
       (λ side. side-below (max H M) (level V (length aborts)) (below-wider M (max H M) (V (On ToPause (length aborts))) (omega arith) (f (On ToPause (length aborts)))) (below-wider M (max H M) (V (On ToEnd (length aborts))) (omega arith) (f (On ToEnd (length aborts)))) side)
@@ -176,14 +176,14 @@ module _ (image : Parts) (costs : List ℕ) (small : (c : Class) → cost_of cos
   rested-below b aborts h (On side k) = below-greater b (stays side) (handled image costs side aborts k) (stays-below b side) (h side k)
   rested-below b aborts h Value = below-none b
 
-  left-below : (b : ℕ) (aborts : List Handler) (V : Numbers) → AreBelow b V → AreBelow (255 + b) (left image costs aborts V)
+  pub left-below : (b : ℕ) (aborts : List Handler) (V : Numbers) → AreBelow b V → AreBelow (255 + b) (left image costs aborts V)
   left-below b aborts V f (On side k) = below-more 255 b (cost_of costs class.Leave) (V (On side (min k (length aborts)))) (f (On side (min k (length aborts)))) (small class.Leave)
   left-below b aborts V f Value = below-none (255 + b)
 
   -- ---- where a code begins
 
   -- from its beginning to what is behind it: a loop without a number passes its test alone
-  abbrev pass : Code → ℕ
+  abbrev pub pass : Code → ℕ
   pass (Passed r) = region_most image r
   pass (Sequence x y) = pass x + pass y
   pass (Either p n at x y) = words_most p (entry x) + max (pass x + words_most (exit x) (entry y)) (pass y)
@@ -193,7 +193,7 @@ module _ (image : Parts) (costs : List ℕ) (small : (c : Class) → cost_of cos
   pass (Forking p lo n) = dearest + total worth lo n
   pass (Guarded p j body) = way_most image worth body + 2 * dearest
 
-  pass-way : (code : Code) → pass code ≤ way_most image worth code
+  pub pass-way : (code : Code) → pass code ≤ way_most image worth code
   pass-way (Passed r) = omega arith
   pass-way (Sequence x y) = let a = pass-way x in let b = pass-way y in omega (arith, a, b)
   pass-way (Either p n at x y) = let a = pass-way x in let b = pass-way y in omega (arith, a, b)
@@ -204,7 +204,7 @@ module _ (image : Parts) (costs : List ℕ) (small : (c : Class) → cost_of cos
   pass-way (Guarded p j body) = omega arith
 
   -- behind it no number is greater than M, in the handlers none than H
-  abbrev begin : Code → ℕ → ℕ → ℕ
+  abbrev pub begin : Code → ℕ → ℕ → ℕ
   begin code M H = max (pass code + M) (way_most image worth code + H)
 
   pub entered-below : (s : ℕ) (stack : List ℕ) (code : Code) (a : List Handler) (M H : ℕ) (V : Numbers) → IsLaidIn image s stack code → Handles H a → AreBelow M V → AreBelow (begin code M H) (entered image costs starts a code V)

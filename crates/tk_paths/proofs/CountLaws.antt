@@ -228,7 +228,7 @@ module _ (image : Parts) (program : Program) (costs : List ℕ) (walk : Walk) (o
 
   -- ---- what slots start with
 
-  starts-suffix : (codes : List Code) (s : ℕ) → ((i : ℕ) (code : Code) → slice_get codes i ≡ Some code → (c : ℕ) × IsLaidIn image c [] code) → (i : ℕ) (side : Side) →
+  pub starts-suffix : (codes : List Code) (s : ℕ) → ((i : ℕ) (code : Code) → slice_get codes i ≡ Some code → (c : ℕ) × IsLaidIn image c [] code) → (i : ℕ) (side : Side) →
       Below (slice_index_or (starts_most_from image s codes) i 0) (on_side side (slice_get (starts_from image costs s codes) i))
   starts-suffix [] s laid i side = below-none 0
   starts-suffix (c ∷ rest) s laid zero side =

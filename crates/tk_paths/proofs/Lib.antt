@@ -80,6 +80,8 @@ pub mod FormLaws
 pub mod SmallNumbers
 pub mod Readings
 pub mod LevelLaws
+pub mod Rooms
 pub mod ChildSums
 pub mod Bests
 pub mod Later
+pub mod SmallLaws

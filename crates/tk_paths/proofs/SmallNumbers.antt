@@ -48,7 +48,7 @@ all-points P [] f = tt
 all-points P (p ∷ points) f = (f p (inl refl), all-points P points (λ q k. f q (inr k)))
 
 -- sums over slots of which each comes to the same
-total-alike : (V W : ℕ → ℕ) (s : ℕ) → ((c : ℕ) → s < c → V c ≡ W c) → (n c : ℕ) → s < c → total V c n ≡ total W c n
+pub total-alike : (V W : ℕ → ℕ) (s : ℕ) → ((c : ℕ) → s < c → V c ≡ W c) → (n c : ℕ) → s < c → total V c n ≡ total W c n
 total-alike V W s same zero c h = refl
 total-alike V W s same (suc n) c h = let a = same c h in let b = total-alike V W s same n (c + 1) (omega (arith, h)) in omega (arith, a, b)
 

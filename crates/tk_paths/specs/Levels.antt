@@ -1,9 +1,8 @@
 -- The numbers of the places of the definition that those in memory are: docs/bounds.md, "Programs".
-use Rattle.std.specs.Prelude.{◌≡◌, ℕ, ◌+◌, ◌-◌, min, List, map, length, slice_index_or, Option, Some, None}
+use Rattle.std.specs.Prelude.{ℕ, ◌-◌, min, List, map, length, slice_index_or, Option, Some, None}
 use Rattle.std.specs.List.{range_with_len}
 use Rattle.mb_isa.specs.declared.Class.TheVariants as class
 use Rattle.mb_isa.specs.Costs.{cost_of}
-use Rattle.tk_paths.specs.declared.view.Side.{Side}
 use Rattle.tk_paths.specs.declared.view.View.TheVariants.{On, Value}
 use Rattle.tk_paths.specs.Sums.{plus, greater}
 use Rattle.tk_paths.specs.Acceptance.{on_side}

@@ -22,3 +22,4 @@ pub mod Made
 pub mod Levels
 pub mod PlaceKinds
 pub mod Told
+pub mod Waits

@@ -33,6 +33,11 @@ impl From<AllocError> for Fault {
 }
 
 impl<T: Drop> From<AllocFailed<T>> for Fault {
+    ghost use Rattle.std.specs.Prelude.{◌≡◌};
+    ghost use Rattle.tk_paths.specs.declared.fault.Fault.{Fault};
+
+    ghost from_gives = { λ e f. f ≡ Fault.Memory };
+
     fn from(_failed: AllocFailed<T>) -> Self {
         Fault::Memory
     }

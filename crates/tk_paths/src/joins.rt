@@ -2,6 +2,8 @@
 
 ghost use Rattle.std.specs.Prelude.{◌≡◌, ◌≤◌, ◌+◌, ◌^◌, IfOk};
 ghost use Rattle.tk_paths.specs.Sums.{and_more, resumed_ends, resumed_most, resumed_paused};
+ghost use Rattle.tk_paths.specs.Walks.{most_cycles};
+ghost use Rattle.tk_paths.specs.Faults.{OnlyMemory, IsSmall};
 ghost use Rattle.tk_paths.specs.Told.{pair_at};
 
 use crate::counts::{greater, plus, sum};
@@ -12,7 +14,8 @@ use crate::view::Side;
 
 // A number and what there is of another.
 fn and_more(number: Option<u64>, rest: Option<u64>) -> Result<Option<u64>, Fault>
-    ensures { IfOk result (λ n. n ≡ and_more number rest) }
+    ensures exact { IfOk result (λ n. n ≡ and_more number rest) }
+    ensures fits { IsSmall (and_more number rest) → OnlyMemory result }
 {
     match number {
         None => Ok(rest),
@@ -27,7 +30,8 @@ fn and_more(number: Option<u64>, rest: Option<u64>) -> Result<Option<u64>, Fault
 #[tactic(auto, using(crate::proofs::ChildSums::resumed_ends_step))]
 pub fn resumed_ends(bounds: &[Pair], child: u32, count: u32) -> Result<Option<u64>, Fault>
     requires { child + count ≤ 2 ^ 20 }
-    ensures { IfOk result (λ n. n ≡ resumed_ends (pair_at bounds.now) child count) }
+    ensures exact { IfOk result (λ n. n ≡ resumed_ends (pair_at bounds.now) child count) }
+    ensures fits { resumed_most (pair_at bounds.now) child count ≤ most_cycles → OnlyMemory result }
 {
     if count == 0 {
         return Ok(None);
@@ -37,11 +41,12 @@ pub fn resumed_ends(bounds: &[Pair], child: u32, count: u32) -> Result<Option<u6
     Ok(n)
 }
 
-// The greatest sum in which each child gives one of its numbers or 0.
+/// The greatest sum in which each child gives one of its numbers or 0.
 #[tactic(auto, using(crate::proofs::ChildSums::resumed_most_step))]
-fn resumed_most(bounds: &[Pair], child: u32, count: u32) -> Result<u64, Fault>
+pub fn resumed_most(bounds: &[Pair], child: u32, count: u32) -> Result<u64, Fault>
     requires { child + count ≤ 2 ^ 20 }
-    ensures { IfOk result (λ n. n ≡ resumed_most (pair_at bounds.now) child count) }
+    ensures exact { IfOk result (λ n. n ≡ resumed_most (pair_at bounds.now) child count) }
+    ensures fits { resumed_most (pair_at bounds.now) child count ≤ most_cycles → OnlyMemory result }
 {
     if count == 0 {
         return Ok(0);
@@ -59,7 +64,8 @@ fn resumed_most(bounds: &[Pair], child: u32, count: u32) -> Result<u64, Fault>
 #[tactic(auto, using(crate::proofs::ChildSums::resumed_paused_step))]
 pub fn resumed_paused(bounds: &[Pair], child: u32, count: u32) -> Result<Option<u64>, Fault>
     requires { child + count ≤ 2 ^ 20 }
-    ensures { IfOk result (λ n. n ≡ resumed_paused (pair_at bounds.now) child count) }
+    ensures exact { IfOk result (λ n. n ≡ resumed_paused (pair_at bounds.now) child count) }
+    ensures fits { resumed_most (pair_at bounds.now) child count ≤ most_cycles → OnlyMemory result }
 {
     if count == 0 {
         return Ok(None);

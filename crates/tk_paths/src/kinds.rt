@@ -2,6 +2,7 @@ ghost use Rattle.std.specs.Prelude.{◌≡◌, [], ◌∷◌, ◌++◌, IfOk};
 ghost use Rattle.tk_paths.specs.Numbers.{line as the_line, inside};
 ghost use Rattle.tk_paths.specs.Levels.{numbers_of};
 ghost use Rattle.tk_paths.specs.PlaceKinds.{kind_of};
+ghost use Rattle.tk_paths.specs.Faults.{OnlyMemory};
 
 use crate::fault::Fault;
 use crate::levels::{Levels, first_levels, value};
@@ -27,14 +28,16 @@ pub enum Kind {
 
 // A copy.
 fn copied(alloc: Global, numbers: &Many<u32>) -> Result<Many<u32>, Fault>
-    ensures { IfOk result (λ copy. copy ≡ numbers.now) }
+    ensures exact { IfOk result (λ copy. copy ≡ numbers.now) }
+    ensures fits { OnlyMemory result }
 {
     Ok(Many::of(numbers.items().to_vec(alloc)?))
 }
 
 // A copy with one number more.
 fn with(alloc: Global, numbers: &Many<u32>, last: u32) -> Result<Many<u32>, Fault>
-    ensures { IfOk result (λ longer. longer ≡ numbers.now ++ last ∷ []) }
+    ensures exact { IfOk result (λ longer. longer ≡ numbers.now ++ last ∷ []) }
+    ensures fits { OnlyMemory result }
 {
     let mut longer = numbers.items().to_vec(alloc)?;
     longer.push(last)?;
@@ -43,7 +46,8 @@ fn with(alloc: Global, numbers: &Many<u32>, last: u32) -> Result<Many<u32>, Faul
 
 /// The line of a place with these numbers.
 pub fn line(alloc: Global, kind: &Kind, levels: &Levels) -> Result<Line, Fault>
-    ensures { IfOk result (λ l. l ≡ the_line (kind_of kind.now) (numbers_of levels.now)) }
+    ensures exact { IfOk result (λ l. l ≡ the_line (kind_of kind.now) (numbers_of levels.now)) }
+    ensures fits { OnlyMemory result }
 {
     match kind {
         Kind::Thread { slot, stack, loops } => {
@@ -76,7 +80,8 @@ pub fn line(alloc: Global, kind: &Kind, levels: &Levels) -> Result<Line, Fault>
 
 /// The same inside one loop more, whose `loop` stands at this place.
 pub fn in_loop(alloc: Global, kind: &Kind, place: u32) -> Result<Kind, Fault>
-    ensures { IfOk result (λ inner. kind_of inner ≡ inside place (kind_of kind.now)) }
+    ensures exact { IfOk result (λ inner. kind_of inner ≡ inside place (kind_of kind.now)) }
+    ensures fits { OnlyMemory result }
 {
     match kind {
         Kind::Thread { slot, stack, loops } => {

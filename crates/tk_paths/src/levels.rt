@@ -5,6 +5,7 @@ ghost use Rattle.tk_paths.specs.declared.view.View.TheVariants.{Value};
 ghost use Rattle.tk_paths.specs.Sums.{or_zero};
 ghost use Rattle.tk_paths.specs.Numbers.{level, just as the_just, nothing as the_nothing, after as the_after};
 ghost use Rattle.tk_paths.specs.Levels.{numbers_of, added as the_added, branching, dearer as the_dearer, levels_to};
+ghost use Rattle.tk_paths.specs.Faults.{OnlyMemory, AllSmall};
 
 use crate::counts::{greater, plus};
 use crate::fault::Fault;
@@ -25,7 +26,8 @@ pub struct Levels {
 
 /// One number for all.
 pub fn just(alloc: Global, cycles: u64) -> Result<Levels, Fault>
-    ensures { IfOk result (λ l. numbers_of l ≡ the_just cycles) }
+    ensures exact { IfOk result (λ l. numbers_of l ≡ the_just cycles) }
+    ensures fits { OnlyMemory result }
 {
     let mut levels = Vec::new(alloc);
     levels.push((Some(cycles), Some(cycles)))?;
@@ -48,7 +50,8 @@ pub fn nothing(alloc: Global) -> Levels
 
 /// A copy.
 pub fn copied(alloc: Global, levels: &Levels) -> Result<Levels, Fault>
-    ensures { IfOk result (λ l. numbers_of l ≡ numbers_of levels.now) }
+    ensures exact { IfOk result (λ l. numbers_of l ≡ numbers_of levels.now) }
+    ensures fits { OnlyMemory result }
 {
     let all = levels.levels.items().to_vec(alloc)?;
     Ok(Levels {
@@ -82,7 +85,8 @@ pub fn value(levels: &Levels) -> u64
 
 /// So many cycles more; nothing, where they aren't there.
 pub fn added(alloc: Global, cycles: Option<u64>, behind: &Levels) -> Result<Levels, Fault>
-    ensures { IfOk result (λ l. numbers_of l ≡ the_added cycles (numbers_of behind.now)) }
+    ensures exact { IfOk result (λ l. numbers_of l ≡ the_added cycles (numbers_of behind.now)) }
+    ensures fits { AllSmall (the_added cycles (numbers_of behind.now)) → OnlyMemory result }
 {
     let count = behind.levels.items().len().max(1);
     let mut levels = Vec::new(alloc);
@@ -98,7 +102,8 @@ pub fn added(alloc: Global, cycles: Option<u64>, behind: &Levels) -> Result<Leve
 
 /// So many cycles before what comes behind.
 pub fn after(alloc: Global, cycles: u64, behind: &Levels) -> Result<Levels, Fault>
-    ensures { IfOk result (λ l. numbers_of l ≡ the_after cycles (numbers_of behind.now)) }
+    ensures exact { IfOk result (λ l. numbers_of l ≡ the_after cycles (numbers_of behind.now)) }
+    ensures fits { AllSmall (the_after cycles (numbers_of behind.now)) → OnlyMemory result }
 {
     let levels = added(alloc, Some(cycles), behind)?;
     Ok(levels)
@@ -106,7 +111,8 @@ pub fn after(alloc: Global, cycles: u64, behind: &Levels) -> Result<Levels, Faul
 
 /// The dearer of two ways.
 pub fn dearer(alloc: Global, first: &Levels, second: &Levels) -> Result<Levels, Fault>
-    ensures { IfOk result (λ l. numbers_of l ≡ the_dearer (numbers_of first.now) (numbers_of second.now)) }
+    ensures exact { IfOk result (λ l. numbers_of l ≡ the_dearer (numbers_of first.now) (numbers_of second.now)) }
+    ensures fits { OnlyMemory result }
 {
     let most = first.levels.items().len().max(second.levels.items().len());
     let count = most.max(1);
@@ -129,7 +135,8 @@ pub fn branched(
     untaken: &Levels,
     taken: &Levels,
 ) -> Result<Levels, Fault>
-    ensures { IfOk result (λ l. numbers_of l ≡ branching costs.now (numbers_of untaken.now) (numbers_of taken.now)) }
+    ensures exact { IfOk result (λ l. numbers_of l ≡ branching costs.now (numbers_of untaken.now) (numbers_of taken.now)) }
+    ensures fits { AllSmall (branching costs.now (numbers_of untaken.now) (numbers_of taken.now)) → OnlyMemory result }
 {
     let first = after(alloc, costs.cost(Class::Untaken), untaken)?;
     let second = after(alloc, costs.cost(Class::Taken), taken)?;
@@ -139,7 +146,8 @@ pub fn branched(
 
 /// The first levels.
 pub fn first_levels(alloc: Global, levels: &Levels, count: usize) -> Result<Vec<Pair>, Fault>
-    ensures { IfOk result (λ all. all.items ≡ levels_to (numbers_of levels.now) count) }
+    ensures exact { IfOk result (λ all. all.items ≡ levels_to (numbers_of levels.now) count) }
+    ensures fits { OnlyMemory result }
 {
     let mut all = Vec::new(alloc);
     for k in 0..count {

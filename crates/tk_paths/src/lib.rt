@@ -37,7 +37,7 @@ mod word;
 pub use bound_laws::{a_reached_bound_is_worst, a_yes_bounds_free_ticks, a_yes_bounds_runs};
 pub use counts::{MOST, greater, more, plus, product, sum};
 pub use fault::Fault;
-pub use joins::{resumed_ends, resumed_paused};
+pub use joins::{resumed_ends, resumed_most, resumed_paused};
 pub use kinds::{Kind, in_loop, line};
 pub use levels::{
     Levels, Pair, added, after, branched, copied, dearer, first_levels, just, level_at, nothing,
@@ -52,8 +52,11 @@ pub use path_laws::{
     a_small_program_is_in_form, a_tight_bound_is_worst, greatest_numbers_cover_beginnings,
     greatest_numbers_cover_rests,
 };
-pub use resuming::{paused, waited};
-pub use slots::{bound_of, slot_bounds};
+pub use resuming::{
+    best_paused, best_waited, handlers, joined_ended, joined_paused, paused, resting, stays,
+    tested_by, waited,
+};
+pub use slots::{bound_of, greatest_of, slot_bounds};
 pub use trees::{Code, Program, Region, Section};
 pub use view::{Side, View};
 pub use word::Word;

@@ -1,4 +1,5 @@
 ghost use Rattle.std.specs.Prelude.{◌≡◌, [], ◌∷◌, IfOk};
+ghost use Rattle.tk_paths.specs.Faults.{OnlyMemory};
 
 use crate::fault::Fault;
 use std::alloc::Global;
@@ -37,6 +38,7 @@ impl Made {
     pub fn put_line(&mut self, line: Line) -> Result<(), Fault>
         ensures lines { IfOk result (λ done. self.new.lines ≡ line ∷ self.old.lines) }
         ensures weights { self.new.weights ≡ self.old.weights }
+        ensures fits { OnlyMemory result }
     {
         self.lines.push(line)?;
         Ok(())
@@ -46,6 +48,7 @@ impl Made {
     pub fn put_weight(&mut self, place: u32, weight: u64) -> Result<(), Fault>
         ensures weights { IfOk result (λ done. self.new.weights ≡ (place, weight) ∷ self.old.weights) }
         ensures lines { self.new.lines ≡ self.old.lines }
+        ensures fits { OnlyMemory result }
     {
         self.weights.push((place, weight))?;
         Ok(())

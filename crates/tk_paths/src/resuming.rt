@@ -3,7 +3,11 @@
 ghost use Rattle.std.specs.Prelude.{◌≡◌, ◌≤◌, ◌<◌, ◌+◌, ◌^◌, IfOk, length, Some};
 ghost use Rattle.tk_paths.specs.Shape.{children_at};
 ghost use Rattle.tk_paths.specs.Greatest.{stays, where_some, handlers, resting, tested, paused, joined, waited, best};
-ghost use Rattle.tk_paths.specs.Told.{told_by, weak_handler, strong_handler, joined_paused, joined_ended};
+ghost use Rattle.tk_paths.specs.Sums.{resumed_most};
+ghost use Rattle.tk_paths.specs.Walks.{most_cycles};
+ghost use Rattle.tk_paths.specs.Faults.{OnlyMemory, IsSmall};
+ghost use Rattle.tk_paths.specs.Told.{told_by, pair_at, weak_handler, strong_handler, joined_paused, joined_ended};
+ghost use Rattle.tk_paths.specs.Waits.{IsSmallWait, AreSmallWaits};
 
 use crate::counts::{greater, more, plus};
 use crate::fault::Fault;
@@ -37,9 +41,9 @@ fn strong_handler(image: &Image, lines: &[Line], side: Side, level: usize, j: u3
     number(lines, side, level, line.handler as usize)
 }
 
-// The greatest number of the handlers of the weak ones of so many aborts; the first has this level.
+/// The greatest number of the handlers of the weak ones of so many aborts; the first has this level.
 #[tactic(auto, using(crate::proofs::ChildSums::handlers_step))]
-fn handlers(
+pub fn handlers(
     image: &Image,
     costs: &Costs,
     lines: &[Line],
@@ -73,8 +77,8 @@ fn handlers(
     }
 }
 
-// What a rest stays at.
-fn stays(side: Side) -> Option<u64>
+/// What a rest stays at.
+pub fn stays(side: Side) -> Option<u64>
     ensures { result ≡ stays side }
 {
     match side {
@@ -83,8 +87,8 @@ fn stays(side: Side) -> Option<u64>
     }
 }
 
-// What follows a rest inside these aborts, which are old.
-fn resting(
+/// What follows a rest inside these aborts, which are old.
+pub fn resting(
     image: &Image,
     costs: &Costs,
     lines: &[Line],
@@ -98,8 +102,8 @@ fn resting(
     greater(stays(side), handled)
 }
 
-// The conditions of these aborts, the first of which has this level: a strong one may lead to its handler, and then `inner`.
-fn tested(
+/// The conditions of these aborts, the first of which has this level: a strong one may lead to its handler, and then `inner`.
+pub fn tested_by(
     image: &Image,
     costs: &Costs,
     lines: &[Line],
@@ -110,12 +114,13 @@ fn tested(
     inner: Option<u64>,
 ) -> Result<Option<u64>, Fault>
     requires { level + length stack.now ≤ 8 }
-    ensures { IfOk result (λ n. n ≡ tested image.now (told_by lines.now bounds.now) costs.now side level stack.now inner) }
+    ensures exact { IfOk result (λ n. n ≡ tested image.now (told_by lines.now bounds.now) costs.now side level stack.now inner) }
+    ensures fits { IsSmall (tested image.now (told_by lines.now bounds.now) costs.now side level stack.now inner) → OnlyMemory result }
 {
     match stack {
         [] => Ok(inner),
         [j, rest @ ..] => {
-            let behind = tested(image, costs, lines, bounds, side, level + 1, rest, inner)?;
+            let behind = tested_by(image, costs, lines, bounds, side, level + 1, rest, inner)?;
             let either = greater(strong_handler(image, lines, side, level, *j), behind);
             let n = more(value_at(lines, abort_at(image, *j).cond as usize), either)?;
             Ok(n)
@@ -133,16 +138,17 @@ pub fn paused(
     p: &Point,
 ) -> Result<Option<u64>, Fault>
     requires { length p.now.stack ≤ 8 }
-    ensures { IfOk result (λ n. n ≡ paused image.now (told_by lines.now bounds.now) costs.now side p.now) }
+    ensures exact { IfOk result (λ n. n ≡ paused image.now (told_by lines.now bounds.now) costs.now side p.now) }
+    ensures fits { IsSmall (paused image.now (told_by lines.now bounds.now) costs.now side p.now) → OnlyMemory result }
 {
     let stack = p.stack.items();
     let behind = number(lines, side, stack.len(), p.at as usize + 1);
-    let n = tested(image, costs, lines, bounds, side, 0, stack, behind)?;
+    let n = tested_by(image, costs, lines, bounds, side, 0, stack, behind)?;
     Ok(n)
 }
 
-// What follows behind the conditions of a fork that waits, where some child pauses.
-fn joined_paused(
+/// What follows behind the conditions of a fork that waits, where some child pauses.
+pub fn joined_paused(
     image: &Image,
     costs: &Costs,
     lines: &[Line],
@@ -152,7 +158,9 @@ fn joined_paused(
     lo: u8,
     count: u8,
 ) -> Result<Option<u64>, Fault>
-    ensures { IfOk result (λ n. n ≡ joined_paused image.now (told_by lines.now bounds.now) costs.now side p.now lo count) }
+    ensures exact { IfOk result (λ n. n ≡ joined_paused image.now (told_by lines.now bounds.now) costs.now side p.now lo count) }
+    ensures fits { resumed_most (pair_at bounds.now) lo count ≤ most_cycles
+        → IsSmall (joined_paused image.now (told_by lines.now bounds.now) costs.now side p.now lo count) → OnlyMemory result }
 {
     let pausing = resumed_paused(bounds, u32::from(lo), u32::from(count))?;
     let rests = resting(image, costs, lines, bounds, p.stack.items(), side);
@@ -160,8 +168,8 @@ fn joined_paused(
     Ok(n)
 }
 
-// The same where all children end.
-fn joined_ended(
+/// The same where all children end.
+pub fn joined_ended(
     image: &Image,
     costs: &Costs,
     lines: &[Line],
@@ -171,7 +179,9 @@ fn joined_ended(
     lo: u8,
     count: u8,
 ) -> Result<Option<u64>, Fault>
-    ensures { IfOk result (λ n. n ≡ joined_ended image.now (told_by lines.now bounds.now) costs.now side p.now lo count) }
+    ensures exact { IfOk result (λ n. n ≡ joined_ended image.now (told_by lines.now bounds.now) costs.now side p.now lo count) }
+    ensures fits { resumed_most (pair_at bounds.now) lo count ≤ most_cycles
+        → IsSmall (joined_ended image.now (told_by lines.now bounds.now) costs.now side p.now lo count) → OnlyMemory result }
 {
     let ending = resumed_ends(bounds, u32::from(lo), u32::from(count))?;
     let behind = number(lines, side, p.stack.items().len(), p.at as usize + 1);
@@ -190,7 +200,9 @@ fn joined(
     lo: u8,
     count: u8,
 ) -> Result<Option<u64>, Fault>
-    ensures { IfOk result (λ n. n ≡ joined image.now (told_by lines.now bounds.now) costs.now side p.now lo count) }
+    ensures exact { IfOk result (λ n. n ≡ joined image.now (told_by lines.now bounds.now) costs.now side p.now lo count) }
+    ensures fits { resumed_most (pair_at bounds.now) lo count ≤ most_cycles
+        → IsSmall (joined image.now (told_by lines.now bounds.now) costs.now side p.now lo count) → OnlyMemory result }
 {
     let paused = joined_paused(image, costs, lines, bounds, side, p, lo, count)?;
     let ended = joined_ended(image, costs, lines, bounds, side, p, lo, count)?;
@@ -210,13 +222,18 @@ fn waited_where(
     any: Option<u64>,
 ) -> Result<Option<u64>, Fault>
     requires { length p.now.stack ≤ 8 }
-    ensures { IfOk result (λ n. n ≡ where_some any (tested image.now (told_by lines.now bounds.now) costs.now side 0 p.now.stack (joined image.now (told_by lines.now bounds.now) costs.now side p.now lo count))) }
+    ensures exact { IfOk result (λ n. n ≡ where_some any (tested image.now (told_by lines.now bounds.now) costs.now side 0 p.now.stack
+        (joined image.now (told_by lines.now bounds.now) costs.now side p.now lo count))) }
+    ensures fits { let told = told_by lines.now bounds.now in
+        resumed_most (pair_at bounds.now) lo count ≤ most_cycles
+        → IsSmall (where_some any (tested image.now told costs.now side 0 p.now.stack (joined image.now told costs.now side p.now lo count)))
+        → OnlyMemory result }
 {
     match any {
         None => Ok(None),
         Some(_) => {
             let behind = joined(image, costs, lines, bounds, side, p, lo, count)?;
-            let n = tested(
+            let n = tested_by(
                 image,
                 costs,
                 lines,
@@ -241,7 +258,9 @@ pub fn waited(
     p: &Point,
 ) -> Result<Option<u64>, Fault>
     requires { length p.now.stack ≤ 8 }
-    ensures { IfOk result (λ n. n ≡ waited image.now (told_by lines.now bounds.now) costs.now side p.now) }
+    ensures exact { IfOk result (λ n. n ≡ waited image.now (told_by lines.now bounds.now) costs.now side p.now) }
+    ensures fits { IsSmallWait image.now bounds.now p.now
+        → IsSmall (waited image.now (told_by lines.now bounds.now) costs.now side p.now) → OnlyMemory result }
 {
     match instr_at(image, p.at as usize) {
         Some(Instr::Fork { lo, count }) => {
@@ -265,7 +284,9 @@ pub fn best_paused(
     side: Side,
     slot: u32,
 ) -> Result<Option<u64>, Fault>
-    ensures { IfOk result (λ n. n ≡ best (paused image.now (told_by lines.now bounds.now) costs.now side) slot image.now.pauses) }
+    ensures exact { IfOk result (λ n. n ≡ best (paused image.now (told_by lines.now bounds.now) costs.now side) slot image.now.pauses) }
+    ensures fits { IsSmall (best (paused image.now (told_by lines.now bounds.now) costs.now side) slot image.now.pauses) →
+        OnlyMemory result }
 {
     image.ranges();
     let mut most = None;
@@ -288,7 +309,9 @@ pub fn best_waited(
     side: Side,
     slot: u32,
 ) -> Result<Option<u64>, Fault>
-    ensures { IfOk result (λ n. n ≡ best (waited image.now (told_by lines.now bounds.now) costs.now side) slot image.now.forks) }
+    ensures exact { IfOk result (λ n. n ≡ best (waited image.now (told_by lines.now bounds.now) costs.now side) slot image.now.forks) }
+    ensures fits { AreSmallWaits image.now bounds.now slot
+        → IsSmall (best (waited image.now (told_by lines.now bounds.now) costs.now side) slot image.now.forks) → OnlyMemory result }
 {
     image.ranges();
     let mut most = None;

@@ -6,7 +6,9 @@ ghost use Rattle.tk_paths.specs.declared.view.Side.TheVariants.{ToPause, ToEnd};
 ghost use Rattle.tk_paths.specs.Sums.{greatest};
 ghost use Rattle.tk_paths.specs.Walks.{most_cycles};
 ghost use Rattle.tk_paths.specs.Greatest.{beginnings};
+ghost use Rattle.tk_paths.specs.Faults.{OnlyMemory, IsSmall};
 ghost use Rattle.tk_paths.specs.Told.{told_by, resumption, slots_from};
+ghost use Rattle.tk_paths.specs.Waits.{AreSmallWaits, AreSmallSlots};
 
 use crate::counts::{MOST, greater, sum};
 use crate::fault::Fault;
@@ -28,7 +30,9 @@ fn resumption(
     slot: u32,
     side: Side,
 ) -> Result<Option<u64>, Fault>
-    ensures { IfOk result (λ n. n ≡ resumption image.now costs.now lines.now bounds.now slot side) }
+    ensures exact { IfOk result (λ n. n ≡ resumption image.now costs.now lines.now bounds.now slot side) }
+    ensures fits { AreSmallWaits image.now bounds.now slot
+        → IsSmall (resumption image.now costs.now lines.now bounds.now slot side) → OnlyMemory result }
 {
     let paused = best_paused(image, costs, lines, bounds, side, slot)?;
     let waited = best_waited(image, costs, lines, bounds, side, slot)?;
@@ -47,7 +51,9 @@ fn set_slots(
 ) -> Result<(), Fault>
     requires few { slot + count ≤ 64 }
     requires unknown { bounds.old.items ≡ replicate (slot + count) (None, None) }
-    ensures { IfOk result (λ done. bounds.new.items ≡ replicate slot (None, None) ++ slots_from image.now costs.now lines.now slot count) }
+    ensures exact { IfOk result (λ done. bounds.new.items ≡
+        replicate slot (None, None) ++ slots_from image.now costs.now lines.now slot count) }
+    ensures fits { AreSmallSlots image.now costs.now lines.now slot count → OnlyMemory result }
 {
     if count == 0 {
         return Ok(());
@@ -67,7 +73,8 @@ pub fn slot_bounds(
     costs: &Costs,
     lines: &[Line],
 ) -> Result<Vec<Pair>, Fault>
-    ensures { IfOk result (λ bounds. bounds.items ≡ slots_from image.now costs.now lines.now 0 (length image.now.slots)) }
+    ensures exact { IfOk result (λ bounds. bounds.items ≡ slots_from image.now costs.now lines.now 0 (length image.now.slots)) }
+    ensures fits { AreSmallSlots image.now costs.now lines.now 0 (length image.now.slots) → OnlyMemory result }
 {
     image.ranges();
     let count = image.slots().len();
@@ -79,15 +86,15 @@ pub fn slot_bounds(
     Ok(bounds)
 }
 
-// The greatest of the numbers that are there, or 0.
-fn greatest(numbers: &[Option<u64>]) -> u64
+/// The greatest of the numbers that are there, or 0.
+pub fn greatest_of(numbers: &[Option<u64>]) -> u64
     ensures { result ≡ greatest numbers.now }
 {
     match numbers {
         [] => 0,
-        [None, rest @ ..] => greatest(rest),
+        [None, rest @ ..] => greatest_of(rest),
         [Some(number), rest @ ..] => {
-            let most = greatest(rest);
+            let most = greatest_of(rest);
             if *number <= most { most } else { *number }
         }
     }
@@ -103,8 +110,11 @@ fn base(image: &Image, costs: &Costs) -> u64
 
 /// The bound: what the tick itself is charged, and the greatest of the numbers with which it may begin.
 pub fn bound_of(image: &Image, costs: &Costs, lines: &[Line], bounds: &[Pair]) -> Result<u64, Fault>
-    ensures exact { IfOk result (λ n. n ≡ base_of image.now costs.now + greatest (beginnings image.now (told_by lines.now bounds.now) costs.now)) }
+    ensures exact { IfOk result (λ n. n ≡
+        base_of image.now costs.now + greatest (beginnings image.now (told_by lines.now bounds.now) costs.now)) }
     ensures within { IfOk result (λ n. n ≤ most_cycles) }
+    ensures fits { base_of image.now costs.now + greatest (beginnings image.now (told_by lines.now bounds.now) costs.now) ≤ most_cycles
+        → OnlyMemory result }
 {
     let start = start_of(image, 0);
     let beginnings = [
@@ -113,7 +123,7 @@ pub fn bound_of(image: &Image, costs: &Costs, lines: &[Line], bounds: &[Pair]) -
         pair_at(bounds, Side::ToPause, 0),
         pair_at(bounds, Side::ToEnd, 0),
     ];
-    let n = sum(base(image, costs), greatest(&beginnings))?;
+    let n = sum(base(image, costs), greatest_of(&beginnings))?;
     if n > MOST {
         return Err(Fault::TooLarge);
     }

@@ -1,5 +1,5 @@
 -- What slots start with, one slot after another.
-use Rattle.std.proofs.Common.{◌≡◌, ℕ, zero, suc, ◌+◌, ◌-◌, ◌<◌, ◌≤◌, ◌==◌, if◌then◌else◌, Bool, true, false, List, [], ◌∷◌, map, take, drop, length, min, get_or, slice_index_or, Option, Some, None, refl, sym, ap, ◌∙◌, arith}
+use Rattle.std.proofs.Common.{◌≡◌, ℕ, suc, ◌+◌, ◌-◌, ◌<◌, ◌≤◌, ◌==◌, if◌then◌else◌, Bool, true, false, List, [], ◌∷◌, map, take, drop, length, min, get_or, slice_index_or, Option, Some, None, refl, ap, ◌∙◌, arith}
 use mathlib.Core.Path.{fun_ext}
 use Rattle.std.specs.List.{range_with_len}
 use Rattle.mb_isa.specs.declared.Class.TheVariants as class
@@ -18,8 +18,9 @@ use Rattle.tk_paths.specs.Trees.{read_code, read_sections, threads_in, code_of}
 use Rattle.tk_paths.specs.declared.levels.Levels.{Levels}
 use Rattle.tk_numbers.specs.Charges.{routines_in}
 use Rattle.tk_paths.specs.Levels.{level_in, numbers_of}
-use Rattle.tk_threads.specs.Sections.{read_section, is_own, own_code, is_thread}
-use Rattle.tk_threads.proofs.Before.{reads_on}
+use Rattle.tk_threads.specs.Sections.{is_own, own_code, is_thread}
+use Rattle.tk_numbers.specs.Routines.{read_section}
+use Rattle.tk_numbers.proofs.Before.{reads_on}
 
 -- the numbers of a thread's `end`: all levels are as the only one
 level-one : (p : Option ℕ × Option ℕ) (k : ℕ) → level_in (p ∷ []) k ≡ p

@@ -5,8 +5,8 @@ use Rattle.mb_isa.specs.declared.Class.TheVariants as class
 use Rattle.pt_image.specs.declared.Parts.{Parts}
 use Rattle.tk_paths.specs.declared.view.Side.{Side}
 use Rattle.tk_paths.specs.Sums.{plus, all_ends, most_paused}
-use Rattle.tk_paths.specs.Codes.{Code, Passed, Sequence, Either, Turns, Forever, Resting, Forking, Guarded, exit}
-use Rattle.tk_paths.specs.Numbers.{Numbers, Handler, cost, nothing, after, branched, jumping, testing, rested, left, with_abort, grouped, entered}
+use Rattle.tk_paths.specs.Codes.{Code, Either, Turns, Resting, Forking, Guarded, exit}
+use Rattle.tk_paths.specs.Numbers.{Numbers, Handler, cost, nothing, after, branched, jumping, testing, rested, left, with_abort, entered}
 use Rattle.tk_paths.specs.Trees.{codes_from}
 use Rattle.tk_paths.specs.Levels.{added, dearer, branching}
 use Rattle.tk_threads.specs.Codes.{pausing, forking, entered_all}

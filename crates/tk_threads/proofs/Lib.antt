@@ -1,5 +1,5 @@
 pub mod RestLaws
 pub mod EntranceLaws
 pub mod LineLaws
-pub mod Before
 pub mod Begun
+pub mod SmallLaws

@@ -7,7 +7,7 @@ use Rattle.mb_isa.specs.declared.Class.TheVariants as class
 use Rattle.pt_image.specs.declared.Parts.{Parts}
 use Rattle.tk_paths.specs.declared.view.Side.{Side}
 use Rattle.tk_paths.specs.declared.view.Side.TheVariants.{ToPause, ToEnd}
-use Rattle.tk_paths.specs.declared.view.View.TheVariants.{On, Value}
+use Rattle.tk_paths.specs.declared.view.View.TheVariants.{On}
 use Rattle.tk_paths.specs.Sums.{plus, greater}
 use Rattle.tk_paths.specs.Kinds.{abort_at}
 use Rattle.tk_paths.specs.Acceptance.{on_side, more}

@@ -1,5 +1,5 @@
 -- The lines and weights of one section after another, and what is known of the routines before it.
-use Rattle.std.specs.Prelude.{◌≡◌, ℕ, ◌++◌, ◌==◌, Bool, true, false, List, [], ◌∷◌, replicate, map, Option}
+use Rattle.std.specs.Prelude.{◌≡◌, ℕ, ◌++◌, ◌==◌, Bool, true, false, List, [], ◌∷◌, replicate, Option}
 use Rattle.mb_isa.specs.declared.Class.TheVariants as class
 use Rattle.pt_image.specs.declared.Parts.{Parts}
 use Rattle.tk_cert.specs.declared.cert.Line.{Line}
@@ -7,29 +7,11 @@ use Rattle.tk_cert.specs.declared.cert.Line.TheVariants.{Bare}
 use Rattle.tk_paths.specs.declared.view.Side.{Side}
 use Rattle.tk_paths.specs.declared.Section.{Section as KeptSection}
 use Rattle.tk_paths.specs.declared.Section.TheVariants as kept
-use Rattle.tk_paths.specs.Regions.{Region, links_in}
+use Rattle.tk_paths.specs.Regions.{Region}
 use Rattle.tk_paths.specs.Numbers.{thread, routine, condition, line, just, units_lines, region_lines, region_weights, code_lines, code_weights, cost}
 use Rattle.tk_paths.specs.Programs.{Section, OfThread, OfRoutine, OfCondition, Unused, height, ended}
 use Rattle.tk_paths.specs.Codes.{Code, Passed}
-use Rattle.tk_paths.specs.Trees.{nowhere, read_region, read_code}
-use Rattle.tk_numbers.specs.Charges.{routines_in}
-
--- the links inside each of the routines before
-abbrev pub AreLinks : List ℕ → List KeptSection → Type 0
-AreLinks links before = links ≡ map links_in (routines_in before)
-
--- the section of the definition that one in memory is, where so many routines are before, and the routines behind it
-abbrev pub read_section : List Region → KeptSection → Section
-read_section routines (kept.OfThread s code) = OfThread s (read_code routines code)
-read_section routines (kept.OfRoutine r) = OfRoutine (read_region routines r)
-read_section routines (kept.OfCondition p n q) = OfCondition p n q
-read_section routines (kept.Unused n) = Unused n
-
-abbrev pub routines_after : List Region → KeptSection → List Region
-routines_after routines (kept.OfThread s code) = routines
-routines_after routines (kept.OfRoutine r) = routines ++ read_region routines r ∷ []
-routines_after routines (kept.OfCondition p n q) = routines
-routines_after routines (kept.Unused n) = routines
+use Rattle.tk_paths.specs.Trees.{nowhere, read_code}
 
 -- a section is the code of a slot, and that code; where it is none, no words
 abbrev pub is_own : ℕ → KeptSection → Bool
@@ -49,12 +31,6 @@ is_thread (kept.OfThread s code) = true
 is_thread (kept.OfRoutine r) = false
 is_thread (kept.OfCondition p n q) = false
 is_thread (kept.Unused n) = false
-
-abbrev pub is_routine : KeptSection → Bool
-is_routine (kept.OfThread s code) = false
-is_routine (kept.OfRoutine r) = true
-is_routine (kept.OfCondition p n q) = false
-is_routine (kept.Unused n) = false
 
 module _ (image : Parts) (costs : List ℕ) where
   -- the lines of a thread of a slot, where these are the numbers with which slots start; of a routine; of a condition

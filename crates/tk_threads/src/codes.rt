@@ -5,7 +5,9 @@ ghost use Rattle.tk_paths.specs.Numbers.{entered as the_entered, code_lines as t
 ghost use Rattle.tk_paths.specs.Programs.{pair_from};
 ghost use Rattle.tk_paths.specs.Trees.{read_code};
 ghost use Rattle.tk_numbers.specs.Charges.{IsValued, routines_in};
+ghost use Rattle.tk_paths.specs.Faults.{OnlyMemory};
 ghost use Rattle.tk_paths.specs.Levels.{numbers_of};
+ghost use Rattle.tk_threads.specs.Rooms.{IsSmallCode};
 
 use crate::entrances::entered;
 use crate::exits::{forking, pausing, tested};
@@ -43,6 +45,8 @@ pub fn code_lines(
         ++ made.old.lines) }
     ensures weights { IfOk result (λ l. made.new.weights ≡
         the_code_weights image.now costs.now (read_code (routines_in before.now) code.now) ++ made.old.weights) }
+    ensures fits { IsSmallCode image.now costs.now (pair_from first starts.now) aborts.now
+        (read_code (routines_in before.now) code.now) (numbers_of behind.now) → OnlyMemory result }
 {
     match code {
         Code::Passed(region) => {

@@ -5,7 +5,9 @@ ghost use Rattle.tk_paths.specs.Numbers.{entered as the_entered};
 ghost use Rattle.tk_paths.specs.Programs.{pair_from};
 ghost use Rattle.tk_paths.specs.Trees.{read_code};
 ghost use Rattle.tk_numbers.specs.Charges.{IsValued, routines_in};
+ghost use Rattle.tk_paths.specs.Faults.{OnlyMemory};
 ghost use Rattle.tk_paths.specs.Levels.{numbers_of};
+ghost use Rattle.tk_threads.specs.Rooms.{IsSmallEntry};
 
 use crate::exits::{back_to, forking, pausing, tested};
 use crate::rests::{Handler, left, with_abort};
@@ -30,9 +32,11 @@ pub fn entered(
     behind: &Levels,
 ) -> Result<Levels, Fault>
     requires { IsValued image.now costs.now values.now before.now }
-    ensures { IfOk result (λ l. numbers_of l ≡
+    ensures exact { IfOk result (λ l. numbers_of l ≡
         the_entered image.now costs.now (pair_from first starts.now) aborts.now
         (read_code (routines_in before.now) code.now) (numbers_of behind.now)) }
+    ensures fits { IsSmallEntry image.now costs.now (pair_from first starts.now) aborts.now
+        (read_code (routines_in before.now) code.now) (numbers_of behind.now) → OnlyMemory result }
 {
     match code {
         Code::Passed(region) => {

@@ -1,11 +1,14 @@
 //! Where codes end, and the numbers at the words round them.
 
-ghost use Rattle.std.specs.Prelude.{◌≡◌, IfOk};
+ghost use Rattle.std.specs.Prelude.{◌≡◌, ◌≤◌, IfOk};
+ghost use Rattle.tk_paths.specs.Sums.{resumed_most};
+ghost use Rattle.tk_paths.specs.Walks.{most_cycles};
 ghost use Rattle.tk_paths.specs.Codes.{exit as the_exit};
 ghost use Rattle.tk_paths.specs.Numbers.{branched as the_branched, jumping as the_jumping, testing as the_testing};
 ghost use Rattle.tk_paths.specs.Programs.{pair_from};
 ghost use Rattle.tk_paths.specs.Trees.{read_code};
-ghost use Rattle.tk_numbers.specs.Charges.{routines_in};
+ghost use Rattle.tk_paths.specs.Faults.{OnlyMemory, AllSmall, HasRoom};
+ghost use Rattle.tk_numbers.specs.Charges.{routines_in, testing_cost};
 ghost use Rattle.tk_paths.specs.Levels.{numbers_of};
 ghost use Rattle.tk_threads.specs.Codes.{pausing, forking};
 
@@ -20,7 +23,8 @@ use tk_paths::{Code, Fault, Levels, Pair, Section, added, after, branched, deare
 /// The place behind a code.
 #[tactic(auto, using(tk_paths::proofs::Readings::code_reads))]
 pub fn exit(before: &[Section], code: &Code) -> Result<usize, Fault>
-    ensures { IfOk result (λ place. place ≡ the_exit (read_code (routines_in before.now) code.now)) }
+    ensures exact { IfOk result (λ place. place ≡ the_exit (read_code (routines_in before.now) code.now)) }
+    ensures fits { OnlyMemory result }
 {
     match code {
         Code::Passed(region) => Ok(end_of(before, region)),
@@ -73,7 +77,8 @@ pub fn testing(
     branch: u32,
     behind: &Levels,
 ) -> Result<Levels, Fault>
-    ensures { IfOk result (λ l. numbers_of l ≡ the_testing image.now costs.now place count branch (numbers_of behind.now)) }
+    ensures exact { IfOk result (λ l. numbers_of l ≡ the_testing image.now costs.now place count branch (numbers_of behind.now)) }
+    ensures fits { HasRoom (testing_cost image.now costs.now place count branch) (numbers_of behind.now) → OnlyMemory result }
 {
     let cost = testing_cost(image, costs, place as usize, count, branch)?;
     let levels = after(alloc, cost, behind)?;
@@ -89,8 +94,11 @@ pub fn back_to(
     code: &Code,
     behind: &Levels,
 ) -> Result<Levels, Fault>
-    ensures { IfOk result (λ l. numbers_of l ≡
+    ensures exact { IfOk result (λ l. numbers_of l ≡
         the_jumping image.now costs.now (the_exit (read_code (routines_in before.now) code.now)) (numbers_of behind.now)) }
+    ensures fits { AllSmall (the_jumping image.now costs.now (the_exit (read_code (routines_in before.now) code.now))
+        (numbers_of behind.now))
+        → OnlyMemory result }
 {
     let place = exit(before, code)?;
     let levels = jumping(alloc, image, costs, place, behind)?;
@@ -108,9 +116,11 @@ pub fn tested(
     untaken: &Levels,
     taken: &Levels,
 ) -> Result<Levels, Fault>
-    ensures { IfOk result (λ l. numbers_of l ≡
+    ensures exact { IfOk result (λ l. numbers_of l ≡
         the_testing image.now costs.now place count branch
         (the_branched image.now costs.now (numbers_of untaken.now) (numbers_of taken.now))) }
+    ensures fits { let both = the_branched image.now costs.now (numbers_of untaken.now) (numbers_of taken.now) in
+        HasRoom (testing_cost image.now costs.now place count branch) both → OnlyMemory result }
 {
     let both = branched(alloc, costs, untaken, taken)?;
     let levels = testing(alloc, image, costs, place, count, branch, &both)?;
@@ -124,7 +134,8 @@ pub fn pausing(
     costs: &Costs,
     aborts: &[Handler],
 ) -> Result<Levels, Fault>
-    ensures { IfOk result (λ l. numbers_of l ≡ pausing image.now costs.now aborts.now) }
+    ensures exact { IfOk result (λ l. numbers_of l ≡ pausing image.now costs.now aborts.now) }
+    ensures fits { AllSmall (pausing image.now costs.now aborts.now) → OnlyMemory result }
 {
     let rest = rested(alloc, image, costs, aborts)?;
     let levels = after(alloc, costs.cost(Class::Eot), &rest)?;
@@ -143,8 +154,11 @@ pub fn forking(
     count: u32,
     behind: &Levels,
 ) -> Result<Levels, Fault>
-    ensures { IfOk result (λ l. numbers_of l ≡ forking image.now costs.now
+    ensures exact { IfOk result (λ l. numbers_of l ≡ forking image.now costs.now
         (pair_from first starts.now) aborts.now low count (numbers_of behind.now)) }
+    ensures fits { resumed_most (pair_from first starts.now) low count ≤ most_cycles
+        → AllSmall (forking image.now costs.now (pair_from first starts.now) aborts.now low count (numbers_of behind.now))
+        → OnlyMemory result }
 {
     let rest = rested(alloc, image, costs, aborts)?;
     let paused = most_paused(first, starts, low, count)?;

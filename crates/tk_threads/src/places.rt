@@ -7,7 +7,9 @@ ghost use Rattle.tk_paths.specs.Numbers.{branched as the_branched, jumping as th
 ghost use Rattle.tk_paths.specs.Numbers.{testing as the_testing, test_lines as the_test_lines, region_lines as the_region_lines};
 ghost use Rattle.tk_paths.specs.Numbers.{passing as the_passing, region_weights as the_region_weights};
 ghost use Rattle.tk_paths.specs.Trees.{read_code, read_region};
-ghost use Rattle.tk_numbers.specs.Charges.{IsValued, routines_in};
+ghost use Rattle.tk_paths.specs.Regions.{through};
+ghost use Rattle.tk_numbers.specs.Charges.{IsValued, routines_in, testing_cost};
+ghost use Rattle.tk_paths.specs.Faults.{OnlyMemory, AllSmall, HasRoom};
 ghost use Rattle.tk_paths.specs.Levels.{numbers_of};
 
 use crate::exits::{exit, testing};
@@ -29,6 +31,7 @@ pub fn put_place(
     ensures lines { IfOk result (λ done. made.new.lines ≡
         the_line (thread slot (stack_of aborts.now) []) (numbers_of levels.now) ∷ made.old.lines) }
     ensures weights { IfOk result (λ done. made.new.weights ≡ made.old.weights) }
+    ensures fits { OnlyMemory result }
 {
     let kind = in_thread(alloc, slot, aborts)?;
     let one = line(alloc, &kind, levels)?;
@@ -58,6 +61,8 @@ pub fn put_region(
         ++ made.old.lines) }
     ensures weights { IfOk result (λ l. made.new.weights ≡
         the_region_weights image.now costs.now (read_region (routines_in before.now) region.now) ++ made.old.weights) }
+    ensures fits { let tree = read_region (routines_in before.now) region.now in
+        HasRoom (through image.now costs.now tree) (numbers_of behind.now) → OnlyMemory result }
 {
     let kind = in_thread(alloc, slot, aborts)?;
     let cost = region_lines(
@@ -86,6 +91,9 @@ pub fn put_back(
         (the_exit (read_code (routines_in before.now) code.now)) (numbers_of behind.now)
         ++ made.old.lines) }
     ensures weights { IfOk result (λ l. made.new.weights ≡ made.old.weights) }
+    ensures fits { AllSmall (the_jumping image.now costs.now (the_exit (read_code (routines_in before.now) code.now))
+        (numbers_of behind.now))
+        → OnlyMemory result }
 {
     let kind = in_thread(alloc, slot, aborts)?;
     let place = exit(before, code)?;
@@ -116,6 +124,8 @@ pub fn put_tested(
         (the_branched image.now costs.now (numbers_of untaken.now) (numbers_of taken.now))
         ++ made.old.lines) }
     ensures weights { IfOk result (λ l. made.new.weights ≡ made.old.weights) }
+    ensures fits { let both = the_branched image.now costs.now (numbers_of untaken.now) (numbers_of taken.now) in
+        HasRoom (testing_cost image.now costs.now place count branch) both → OnlyMemory result }
 {
     let kind = in_thread(alloc, slot, aborts)?;
     let both = branched(alloc, costs, untaken, taken)?;

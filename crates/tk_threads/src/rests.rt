@@ -6,6 +6,7 @@ ghost use Rattle.tk_paths.specs.Kinds.{abort_at};
 ghost use Rattle.tk_paths.specs.Acceptance.{on_side};
 ghost use Rattle.tk_paths.specs.Numbers.{thread, stack_of};
 ghost use Rattle.tk_paths.specs.Numbers.{handled as the_handled, rested as the_rested, left as the_left, with_abort as the_with_abort};
+ghost use Rattle.tk_paths.specs.Faults.{OnlyMemory, AllSmall};
 ghost use Rattle.tk_paths.specs.Levels.{numbers_of};
 ghost use Rattle.tk_paths.specs.PlaceKinds.{kind_of};
 
@@ -61,7 +62,8 @@ pub fn rested(
     costs: &Costs,
     aborts: &[Handler],
 ) -> Result<Levels, Fault>
-    ensures { IfOk result (λ l. numbers_of l ≡ the_rested image.now costs.now aborts.now) }
+    ensures exact { IfOk result (λ l. numbers_of l ≡ the_rested image.now costs.now aborts.now) }
+    ensures fits { OnlyMemory result }
 {
     let count = aborts.len() + 1;
     let mut levels = Vec::new(alloc);
@@ -83,7 +85,8 @@ pub fn left(
     aborts: &[Handler],
     behind: &Levels,
 ) -> Result<Levels, Fault>
-    ensures { IfOk result (λ l. numbers_of l ≡ the_left image.now costs.now aborts.now (numbers_of behind.now)) }
+    ensures exact { IfOk result (λ l. numbers_of l ≡ the_left image.now costs.now aborts.now (numbers_of behind.now)) }
+    ensures fits { AllSmall (the_left image.now costs.now aborts.now (numbers_of behind.now)) → OnlyMemory result }
 {
     let cost = Some(costs.cost(Class::Leave));
     let count = aborts.len() + 1;
@@ -107,7 +110,8 @@ pub fn with_abort(
     number: u32,
     behind: &Levels,
 ) -> Result<Vec<Handler>, Fault>
-    ensures { IfOk result (λ all. all.items ≡ the_with_abort image.now costs.now aborts.now number (numbers_of behind.now)) }
+    ensures exact { IfOk result (λ all. all.items ≡ the_with_abort image.now costs.now aborts.now number (numbers_of behind.now)) }
+    ensures fits { OnlyMemory result }
 {
     let mut all = aborts.to_vec(alloc)?;
     all.push((number, level_at(behind, aborts.len())))?;
@@ -116,7 +120,8 @@ pub fn with_abort(
 
 /// What a place of a slot is inside that is inside these aborts.
 pub fn in_thread(alloc: Global, slot: u32, aborts: &[Handler]) -> Result<Kind, Fault>
-    ensures { IfOk result (λ kind. kind_of kind ≡ thread slot (stack_of aborts.now) []) }
+    ensures exact { IfOk result (λ kind. kind_of kind ≡ thread slot (stack_of aborts.now) []) }
+    ensures fits { OnlyMemory result }
 {
     let mut stack = Vec::new(alloc);
     for handler in aborts {

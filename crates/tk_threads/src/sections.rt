@@ -1,28 +1,33 @@
 //! The lines and weights of all sections, from the last to the first.
 
 ghost use Rattle.std.specs.Prelude.{◌≡◌, ◌≤◌, ◌<◌, ◌+◌, ◌++◌, [], ◌∷◌, replicate, length, take, IfOk};
-ghost use Rattle.std.specs.List.{flat_map};
+ghost use Rattle.std.specs.List.{AllByRecursion, flat_map};
+ghost use Rattle.mb_isa.specs.declared.Class.TheVariants.{Cend, Ret};
 ghost use Rattle.tk_cert.specs.declared.cert.Line.TheVariants.{Bare};
-ghost use Rattle.tk_paths.specs.Numbers.{code_weights, region_weights};
-ghost use Rattle.tk_paths.specs.Programs.{pair_from};
+ghost use Rattle.tk_paths.specs.Numbers.{cost, just as the_just, code_weights, region_weights};
+ghost use Rattle.tk_paths.specs.Programs.{OfRoutine, ended as the_ended, pair_from};
+ghost use Rattle.tk_paths.specs.Regions.{through, units_cost};
 ghost use Rattle.tk_paths.specs.Trees.{read_region, read_code, read_sections};
+ghost use Rattle.tk_paths.specs.Faults.{OnlyMemory, HasRoom};
 ghost use Rattle.tk_numbers.specs.Charges.{IsValued, routines_in};
-ghost use Rattle.tk_threads.specs.Sections.{AreLinks, read_section, routine_lines, condition_lines, thread_lines, lines_of, weights_of};
+ghost use Rattle.tk_threads.specs.Rooms.{IsSmallCode, IsSmallSection};
+ghost use Rattle.tk_numbers.specs.Routines.{IsShallow};
+ghost use Rattle.tk_threads.specs.Sections.{routine_lines, condition_lines, thread_lines, lines_of, weights_of};
+ghost use Rattle.tk_numbers.specs.Routines.{AreLinks, read_section};
 
 use crate::codes::code_lines;
 use crate::rests::in_thread;
-use crate::routines::{links_before, links_in, values_before};
 use crate::starts::ended;
 use mb_isa::{Class, Costs};
 use pt_base::Many;
 use pt_image::Image;
 use std::alloc::Global;
 use tk_cert::Line;
-use tk_numbers::{put_line, region_lines, units_lines};
+use tk_numbers::{links_before, links_in, put_line, region_lines, units_lines, values_before};
 use tk_paths::{Code, Fault, Kind, Made, Pair, Region, Section, just};
 
 // Puts the lines and weights of a thread's code and its `end` in front.
-#[tactic(auto, using(crate::proofs::Before::and_one))]
+#[tactic(auto, using(tk_numbers::proofs::Before::and_one))]
 fn put_thread(
     alloc: Global,
     image: &Image,
@@ -35,8 +40,12 @@ fn put_thread(
     made: &mut Made,
 ) -> Result<(), Fault>
     requires { IsValued image.now costs.now values.now before.now }
-    ensures lines { IfOk result (λ done. made.new.lines ≡ thread_lines image.now costs.now (pair_from 0 starts.now) slot (read_code (routines_in before.now) code.now) ++ made.old.lines) }
-    ensures weights { IfOk result (λ done. made.new.weights ≡ code_weights image.now costs.now (read_code (routines_in before.now) code.now) ++ made.old.weights) }
+    ensures lines { IfOk result (λ done. made.new.lines ≡
+        thread_lines image.now costs.now (pair_from 0 starts.now) slot (read_code (routines_in before.now) code.now) ++ made.old.lines) }
+    ensures weights { IfOk result (λ done. made.new.weights ≡
+        code_weights image.now costs.now (read_code (routines_in before.now) code.now) ++ made.old.weights) }
+    ensures fits { IsSmallCode image.now costs.now (pair_from 0 starts.now) [] (read_code (routines_in before.now) code.now)
+        (the_ended image.now costs.now) → OnlyMemory result }
 {
     let end = ended(alloc, image, costs)?;
     let kind = in_thread(alloc, slot, &[])?;
@@ -59,7 +68,7 @@ fn put_thread(
 }
 
 // Puts the lines and weights of a routine and its `ret` in front.
-#[tactic(auto, using(crate::proofs::Before::and_one))]
+#[tactic(auto, using(tk_numbers::proofs::Before::and_one))]
 fn put_routine(
     alloc: Global,
     image: &Image,
@@ -72,8 +81,13 @@ fn put_routine(
 ) -> Result<(), Fault>
     requires values { IsValued image.now costs.now values.now before.now }
     requires links { AreLinks links.now before.now }
-    ensures lines { IfOk result (λ done. made.new.lines ≡ routine_lines image.now costs.now (read_region (routines_in before.now) region.now) ++ made.old.lines) }
-    ensures weights { IfOk result (λ done. made.new.weights ≡ region_weights image.now costs.now (read_region (routines_in before.now) region.now) ++ made.old.weights) }
+    ensures lines { IfOk result (λ done. made.new.lines ≡
+        routine_lines image.now costs.now (read_region (routines_in before.now) region.now) ++ made.old.lines) }
+    ensures weights { IfOk result (λ done. made.new.weights ≡
+        region_weights image.now costs.now (read_region (routines_in before.now) region.now) ++ made.old.weights) }
+    ensures fits { let tree = read_region (routines_in before.now) region.now in
+        HasRoom (through image.now costs.now tree) (the_just (cost image.now costs.now Ret)) → IsShallow (OfRoutine tree) →
+        OnlyMemory result }
 {
     let inner = links_in(before, links, region)?;
     let height = match inner.checked_add(1) {
@@ -93,7 +107,7 @@ fn put_routine(
 }
 
 // Puts the lines of a condition and its `cend` in front.
-#[tactic(auto, using(crate::proofs::Before::and_one))]
+#[tactic(auto, using(tk_numbers::proofs::Before::and_one))]
 fn put_condition(
     alloc: Global,
     image: &Image,
@@ -104,6 +118,7 @@ fn put_condition(
 ) -> Result<(), Fault>
     ensures lines { IfOk result (λ done. made.new.lines ≡ condition_lines image.now costs.now from count ++ made.old.lines) }
     ensures weights { IfOk result (λ done. made.new.weights ≡ made.old.weights) }
+    ensures fits { HasRoom (units_cost image.now costs.now from count) (the_just (cost image.now costs.now Cend)) → OnlyMemory result }
 {
     let kind = Kind::Condition;
     let end = just(alloc, costs.cost(Class::Cend))?;
@@ -116,6 +131,7 @@ fn put_condition(
 fn put_bare(count: u32, made: &mut Made) -> Result<(), Fault>
     ensures lines { IfOk result (λ done. made.new.lines ≡ replicate count Bare ++ made.old.lines) }
     ensures weights { IfOk result (λ done. made.new.weights ≡ made.old.weights) }
+    ensures fits { OnlyMemory result }
 {
     for _ in 0..count {
         made.put_line(Line::Bare)?;
@@ -137,8 +153,12 @@ fn put_section(
 ) -> Result<(), Fault>
     requires values { IsValued image.now costs.now values.now before.now }
     requires links { AreLinks links.now before.now }
-    ensures lines { IfOk result (λ done. made.new.lines ≡ lines_of image.now costs.now (pair_from 0 starts.now) (read_section (routines_in before.now) section.now) ++ made.old.lines) }
-    ensures weights { IfOk result (λ done. made.new.weights ≡ weights_of image.now costs.now (read_section (routines_in before.now) section.now) ++ made.old.weights) }
+    ensures lines { IfOk result (λ done. made.new.lines ≡
+        lines_of image.now costs.now (pair_from 0 starts.now) (read_section (routines_in before.now) section.now) ++ made.old.lines) }
+    ensures weights { IfOk result (λ done. made.new.weights ≡
+        weights_of image.now costs.now (read_section (routines_in before.now) section.now) ++ made.old.weights) }
+    ensures fits { IsSmallSection image.now costs.now (pair_from 0 starts.now) (read_section (routines_in before.now) section.now)
+        → OnlyMemory result }
 {
     match section {
         Section::OfThread { slot, code } => put_thread(
@@ -155,7 +175,7 @@ fn put_section(
 }
 
 /// The lines and weights of all sections, whose routines have these costs and links, where slots start with these numbers.
-#[tactic(auto, using(crate::proofs::Before::in_none))]
+#[tactic(auto, using(tk_numbers::proofs::Before::in_none))]
 pub fn made_of(
     alloc: Global,
     image: &Image,
@@ -167,8 +187,11 @@ pub fn made_of(
 ) -> Result<Made, Fault>
     requires values { IsValued image.now costs.now values.now sections.now }
     requires links { AreLinks links.now sections.now }
-    ensures lines { IfOk result (λ made. made.lines ≡ flat_map (lines_of image.now costs.now (pair_from 0 starts.now)) (read_sections [] sections.now)) }
+    ensures lines { IfOk result (λ made. made.lines ≡
+        flat_map (lines_of image.now costs.now (pair_from 0 starts.now)) (read_sections [] sections.now)) }
     ensures weights { IfOk result (λ made. made.weights ≡ flat_map (weights_of image.now costs.now) (read_sections [] sections.now)) }
+    ensures fits { AllByRecursion (IsSmallSection image.now costs.now (pair_from 0 starts.now)) (read_sections [] sections.now)
+        → OnlyMemory result }
 {
     let mut made = Made::new(alloc);
     let mut i = sections.len();

@@ -6,14 +6,16 @@ ghost use Rattle.tk_paths.specs.Programs.{pair_from, ended as the_ended, starts_
 ghost use Rattle.tk_paths.specs.Trees.{read_code, read_sections, threads_in, code_of, codes_of};
 ghost use Rattle.tk_numbers.specs.Charges.{IsValued, routines_in};
 ghost use Rattle.tk_paths.specs.Levels.{numbers_of};
+ghost use Rattle.tk_paths.specs.Faults.{OnlyMemory};
+ghost use Rattle.tk_threads.specs.Rooms.{IsSmallEntry, AreSmallStarts};
 ghost use Rattle.tk_threads.specs.Sections.{is_own, is_thread, own_code};
 
 use crate::entrances::entered;
-use crate::routines::values_before;
 use mb_isa::{Class, Costs};
 use pt_base::Many;
 use pt_image::Image;
 use std::alloc::Global;
+use tk_numbers::values_before;
 use tk_paths::{Code, Fault, Levels, Pair, Section, level_at};
 
 // The most slots that an image has.
@@ -21,7 +23,8 @@ const MOST_SLOTS: usize = 64;
 
 /// The numbers of a thread's `end`.
 pub fn ended(alloc: Global, image: &Image, costs: &Costs) -> Result<Levels, Fault>
-    ensures { IfOk result (λ l. numbers_of l ≡ the_ended image.now costs.now) }
+    ensures exact { IfOk result (λ l. numbers_of l ≡ the_ended image.now costs.now) }
+    ensures fits { OnlyMemory result }
 {
     let mut levels = Vec::new(alloc);
     levels.push((None, Some(costs.cost(Class::End))))?;
@@ -55,7 +58,11 @@ fn begun(
     code: &Code,
 ) -> Result<Pair, Fault>
     requires { IsValued image.now costs.now values.now before.now }
-    ensures { IfOk result (λ p. p ≡ level (the_entered image.now costs.now (pair_from first later.now) [] (read_code (routines_in before.now) code.now) (the_ended image.now costs.now)) 0) }
+    ensures exact { IfOk result (λ p. p ≡
+        level (the_entered image.now costs.now (pair_from first later.now) [] (read_code (routines_in before.now) code.now)
+        (the_ended image.now costs.now)) 0) }
+    ensures fits { IsSmallEntry image.now costs.now (pair_from first later.now) [] (read_code (routines_in before.now) code.now)
+        (the_ended image.now costs.now) → OnlyMemory result }
 {
     let end = ended(alloc, image, costs)?;
     let levels = entered(
@@ -85,7 +92,11 @@ fn section_start(
     section: &Section,
 ) -> Result<Pair, Fault>
     requires { IsValued image.now costs.now values.now before.now }
-    ensures { IfOk result (λ p. p ≡ level (the_entered image.now costs.now (pair_from first later.now) [] (own_code (routines_in before.now) section.now) (the_ended image.now costs.now)) 0) }
+    ensures exact { IfOk result (λ p. p ≡
+        level (the_entered image.now costs.now (pair_from first later.now) [] (own_code (routines_in before.now) section.now)
+        (the_ended image.now costs.now)) 0) }
+    ensures fits { IsSmallEntry image.now costs.now (pair_from first later.now) [] (own_code (routines_in before.now) section.now)
+        (the_ended image.now costs.now) → OnlyMemory result }
 {
     match section {
         Section::OfThread { code, .. } => {
@@ -99,7 +110,7 @@ fn section_start(
 }
 
 // The numbers with which a slot starts, where those behind it start with these.
-#[tactic(auto, using(crate::proofs::Before::in_none, crate::proofs::Begun::code_here, crate::proofs::Begun::code_past))]
+#[tactic(auto, using(tk_numbers::proofs::Before::in_none, crate::proofs::Begun::code_here, crate::proofs::Begun::code_past))]
 fn slot_start(
     alloc: Global,
     image: &Image,
@@ -111,7 +122,11 @@ fn slot_start(
 ) -> Result<Pair, Fault>
     requires values { IsValued image.now costs.now values.now sections.now }
     requires low { slot < 64 }
-    ensures { IfOk result (λ p. p ≡ level (the_entered image.now costs.now (pair_from (slot + 1) later.now) [] (code_of slot (read_sections [] sections.now)) (the_ended image.now costs.now)) 0) }
+    ensures exact { IfOk result (λ p. p ≡
+        level (the_entered image.now costs.now (pair_from (slot + 1) later.now) [] (code_of slot (read_sections [] sections.now))
+        (the_ended image.now costs.now)) 0) }
+    ensures fits { IsSmallEntry image.now costs.now (pair_from (slot + 1) later.now) [] (code_of slot (read_sections [] sections.now))
+        (the_ended image.now costs.now) → OnlyMemory result }
 {
     for i in 0..sections.len() {
         if is_own(&sections[i], slot) {
@@ -145,7 +160,7 @@ fn is_thread(section: &Section) -> bool
 }
 
 // How many threads there are.
-#[tactic(auto, using(crate::proofs::Before::in_none, crate::proofs::Begun::thread_there, crate::proofs::Begun::thread_past))]
+#[tactic(auto, using(tk_numbers::proofs::Before::in_none, crate::proofs::Begun::thread_there, crate::proofs::Begun::thread_past))]
 fn threads_in(sections: &[Section]) -> usize
     ensures { result ≡ threads_in (read_sections [] sections.now) }
 {
@@ -167,7 +182,9 @@ pub fn starts_of(
     values: &[u64],
 ) -> Result<Vec<Pair>, Fault>
     requires { IsValued image.now costs.now values.now sections.now }
-    ensures { IfOk result (λ starts. starts.items ≡ starts_from image.now costs.now 0 (codes_of (read_sections [] sections.now))) }
+    ensures exact { IfOk result (λ starts. starts.items ≡ starts_from image.now costs.now 0 (codes_of (read_sections [] sections.now))) }
+    ensures fits { threads_in (read_sections [] sections.now) ≤ 64
+        → AreSmallStarts image.now costs.now 0 (codes_of (read_sections [] sections.now)) → OnlyMemory result }
 {
     let mut starts = Vec::new(alloc);
     let count = threads_in(sections);

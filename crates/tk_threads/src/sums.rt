@@ -2,7 +2,9 @@
 
 ghost use Rattle.std.specs.Prelude.{◌≡◌, ◌≤◌, ◌+◌, ◌-◌, IfOk};
 ghost use Rattle.tk_paths.specs.declared.view.Side.TheVariants.{ToPause, ToEnd};
-ghost use Rattle.tk_paths.specs.Sums.{all_ends as the_all_ends, most_paused as the_most_paused};
+ghost use Rattle.tk_paths.specs.Sums.{all_ends as the_all_ends, most_paused as the_most_paused, resumed_most};
+ghost use Rattle.tk_paths.specs.Walks.{most_cycles};
+ghost use Rattle.tk_paths.specs.Faults.{OnlyMemory};
 ghost use Rattle.tk_paths.specs.Programs.{pair_from};
 
 use tk_paths::{Fault, Pair, greater, plus};
@@ -20,7 +22,8 @@ fn start_of(first: u32, starts: &[Pair], slot: usize) -> Pair
 
 /// The sum of the cycles up to their ends of so many slots from `low` on, where all of them can end.
 pub fn all_ends(first: u32, starts: &[Pair], low: u32, count: u32) -> Result<Option<u64>, Fault>
-    ensures { IfOk result (λ sum. sum ≡ the_all_ends (pair_from first starts.now) low count) }
+    ensures exact { IfOk result (λ sum. sum ≡ the_all_ends (pair_from first starts.now) low count) }
+    ensures fits { resumed_most (pair_from first starts.now) low count ≤ most_cycles → OnlyMemory result }
 {
     let mut total = Some(0);
     let mut left = count as usize;
@@ -34,7 +37,8 @@ pub fn all_ends(first: u32, starts: &[Pair], low: u32, count: u32) -> Result<Opt
 
 /// The greatest sum of one number for each of so many slots, at least one of them up to a pause.
 pub fn most_paused(first: u32, starts: &[Pair], low: u32, count: u32) -> Result<Option<u64>, Fault>
-    ensures { IfOk result (λ sum. sum ≡ the_most_paused (pair_from first starts.now) low count) }
+    ensures exact { IfOk result (λ sum. sum ≡ the_most_paused (pair_from first starts.now) low count) }
+    ensures fits { resumed_most (pair_from first starts.now) low count ≤ most_cycles → OnlyMemory result }
 {
     let mut most = Some(0);
     let mut paused = None;

@@ -16,8 +16,8 @@ loop-k-preserved c =
     (dearer-pair V W c.loop-k.k c.level_at-a.result c.level_at-b.result c.greater.result c.greater-in-loop-k.result c.level_at-a.ensures c.level_at-b.ensures c.greater.ensures c.greater-in-loop-k.ensures)
     ∙ sym (one-more (dearer V W) c.loop-k.k)
 
-pub returns : goal.returns
-returns c =
+pub returns-clause-exact : goal.returns-clause-exact
+returns-clause-exact c =
     let V = dearer (numbers_of c.args.first.now) (numbers_of c.args.second.now) in
     let most = c.max-most.ensures in
     let more = c.max-count.ensures in

@@ -1,4 +1,4 @@
-use Rattle.std.proofs.Common.{◌≡◌, None, length, min, ◌-◌, slice_index_or, ap, sym, ◌∙◌}
+use Rattle.std.proofs.Common.{None, slice_index_or, ap, ◌∙◌}
 use Rattle.tk_paths.proofs.LevelLaws.{level-none, level-read}
 use Rattle.tk_paths.proofs.levels.level_at.Goals as goal
 

@@ -1,17 +1,19 @@
-use Rattle.std.proofs.Common.{◌≡◌, ◌≤◌, ◌++◌, List, [], ◌∷◌, drop, length, map, sym, ap, ◌∙◌, arith, append_assoc}
+use Rattle.std.proofs.Common.{◌≡◌, ◌≤◌, List, [], drop, length, map, refl, sym, ap, ◌∙◌, arith}
 use mathlib.Core.Path.{ap₂}
 use Rattle.std.proofs.lemmas.List.{drop_all}
-use Rattle.mb_isa.specs.declared.Class.TheVariants as class
 use Rattle.tk_paths.specs.declared.trees.Code.{Code as Kept}
 use Rattle.tk_paths.specs.Codes.{Code, Either, Turns, Forever, Resting, Forking, Guarded}
-use Rattle.tk_paths.specs.Numbers.{after, entered, code_lines, code_weights}
+use Rattle.tk_paths.specs.Numbers.{after, entered}
 use Rattle.tk_paths.specs.Programs.{pair_from}
 use Rattle.tk_paths.specs.Trees.{read_code, codes_from}
 use Rattle.tk_paths.proofs.Readings.{read-Sequence, read-Either, read-Turns, read-Forever, read-Resting, read-Forking, read-Guarded}
 use Rattle.tk_numbers.specs.Charges.{routines_in}
 use Rattle.tk_paths.specs.Levels.{numbers_of}
-use Rattle.tk_threads.specs.Codes.{entered_all, lines_all, weights_all}
+use Rattle.tk_threads.specs.Codes.{entered_all}
 use Rattle.tk_threads.proofs.EntranceLaws.{front, pausing-is, forking-is-entered, entered-all, entered-either, entered-turns, entered-guarded}
+use Rattle.std.proofs.lemmas.Result.{err_from_is_err_and}
+use Rattle.tk_numbers.specs.Charges.{testing_cost}
+use Rattle.tk_threads.proofs.SmallLaws.{entry-read, entry-behind, entry-inside, entry-part, numbers-small, test-room}
 use Rattle.tk_threads.proofs.entrances.+entered.Goals as goal
 
 pub loop-rest-init : goal.loop-rest-init
@@ -26,7 +28,7 @@ loop-rest-init t c =
     let none : drop (length codes) codes ≡ [] = drop_all (length codes) codes (omega arith) in
     record {
       within = omega arith;
-      numbers = c.in_ok-levels-in-Sequence.ensures ∙ ap (λ (cs : List Kept). entered_all I K S A (map (read_code R) cs) V) (sym none);
+      numbers = c.in_ok-levels-in-Sequence.ensures.exact ∙ ap (λ (cs : List Kept). entered_all I K S A (map (read_code R) cs) V) (sym none);
     }
 
 pub loop-rest-preserved : goal.loop-rest-preserved
@@ -46,12 +48,12 @@ loop-rest-preserved t c =
     record {
       within = omega arith;
       numbers =
-          c.in_ok-levels-in-Sequence-2.ensures ∙ ap (entered I K S A (read_code R part)) l.invariant.numbers
+          c.in_ok-levels-in-Sequence-2.ensures.exact ∙ ap (entered I K S A (read_code R part)) l.invariant.numbers
           ∙ ap (λ (cs : List Kept). entered_all I K S A (map (read_code R) cs) V) (sym one);
     }
 
-pub returns-after-loop-rest : goal.returns-after-loop-rest
-returns-after-loop-rest t c =
+pub returns-after-loop-rest-clause-exact : goal.returns-after-loop-rest-clause-exact
+returns-after-loop-rest-clause-exact t c =
     let R = routines_in c.args.before.now in
     let I = c.args.image.now in
     let K = c.args.costs.now in
@@ -70,8 +72,8 @@ returns-after-loop-rest t c =
     ∙ sym (entered-all I K S A e.to (map (read_code R) codes) V)
     ∙ ap (λ (d : Code). entered I K S A d V) (sym is)
 
-pub returns-in_ok-levels-in-Either : goal.returns-in_ok-levels-in-Either
-returns-in_ok-levels-in-Either t c =
+pub returns-in_ok-levels-in-Either-clause-exact : goal.returns-in_ok-levels-in-Either-clause-exact
+returns-in_ok-levels-in-Either-clause-exact t c =
     let R = routines_in c.args.before.now in
     let I = c.args.image.now in
     let K = c.args.costs.now in
@@ -84,13 +86,13 @@ returns-in_ok-levels-in-Either t c =
     let is : read_code R c.args.code.now ≡ Either e.from e.count e.branch x y =
     ap (read_code R) e.is ∙ read-Either R e.from e.count e.branch e.untaken e.taken
     ∙ ap₂ (λ (a b : Kept). Either e.from e.count e.branch (read_code R a) (read_code R b)) (sym c.get-near.ensures) (sym c.get-far.ensures) in
-    c.in_ok-levels-in-Either.ensures
+    c.in_ok-levels-in-Either.ensures.exact
     ∙ entered-either I K S A e.from e.count e.branch x y V (numbers_of c.in_ok-back-in-Either.back) (numbers_of c.in_ok-one-in-Either.one)
-    (numbers_of c.in_ok-other-in-Either.other) c.in_ok-back-in-Either.ensures c.in_ok-one-in-Either.ensures c.in_ok-other-in-Either.ensures
+    (numbers_of c.in_ok-other-in-Either.other) c.in_ok-back-in-Either.ensures.exact c.in_ok-one-in-Either.ensures.exact c.in_ok-other-in-Either.ensures.exact
     ∙ ap (λ (d : Code). entered I K S A d V) (sym is)
 
-pub returns-in_ok-levels-in-Turns : goal.returns-in_ok-levels-in-Turns
-returns-in_ok-levels-in-Turns t c =
+pub returns-in_ok-levels-in-Turns-clause-exact : goal.returns-in_ok-levels-in-Turns-clause-exact
+returns-in_ok-levels-in-Turns-clause-exact t c =
     let R = routines_in c.args.before.now in
     let I = c.args.image.now in
     let K = c.args.costs.now in
@@ -102,13 +104,13 @@ returns-in_ok-levels-in-Turns t c =
     let is : read_code R c.args.code.now ≡ Turns e.from e.count e.branch x e.to =
     ap (read_code R) e.is ∙ read-Turns R e.from e.count e.branch e.body e.to
     ∙ ap (λ (a : Kept). Turns e.from e.count e.branch (read_code R a) e.to) (sym c.get-inner.ensures) in
-    c.in_ok-levels-in-Turns.ensures
+    c.in_ok-levels-in-Turns.ensures.exact
     ∙ entered-turns I K S A e.from e.count e.branch x e.to V (numbers_of c.nothing-none.result) (numbers_of c.in_ok-one-in-Turns.one)
-    c.nothing-none.ensures c.in_ok-one-in-Turns.ensures
+    c.nothing-none.ensures c.in_ok-one-in-Turns.ensures.exact
     ∙ ap (λ (d : Code). entered I K S A d V) (sym is)
 
-pub returns-in_ok-levels-in-Forever : goal.returns-in_ok-levels-in-Forever
-returns-in_ok-levels-in-Forever t c =
+pub returns-in_ok-levels-in-Forever-clause-exact : goal.returns-in_ok-levels-in-Forever-clause-exact
+returns-in_ok-levels-in-Forever-clause-exact t c =
     let R = routines_in c.args.before.now in
     let I = c.args.image.now in
     let K = c.args.costs.now in
@@ -119,11 +121,11 @@ returns-in_ok-levels-in-Forever t c =
     let x = read_code R c.get-inner-in-Forever.result.now in
     let is : read_code R c.args.code.now ≡ Forever x e.to =
     ap (read_code R) e.is ∙ read-Forever R e.body e.to ∙ ap (λ (a : Kept). Forever (read_code R a) e.to) (sym c.get-inner-in-Forever.ensures) in
-    c.in_ok-levels-in-Forever.ensures ∙ ap (entered I K S A x) c.nothing-none-in-Forever.ensures
+    c.in_ok-levels-in-Forever.ensures.exact ∙ ap (entered I K S A x) c.nothing-none-in-Forever.ensures
     ∙ ap (λ (d : Code). entered I K S A d V) (sym is)
 
-pub returns-in_ok-levels-in-Guarded : goal.returns-in_ok-levels-in-Guarded
-returns-in_ok-levels-in-Guarded t c =
+pub returns-in_ok-levels-in-Guarded-clause-exact : goal.returns-in_ok-levels-in-Guarded-clause-exact
+returns-in_ok-levels-in-Guarded-clause-exact t c =
     let R = routines_in c.args.before.now in
     let I = c.args.image.now in
     let K = c.args.costs.now in
@@ -135,15 +137,15 @@ returns-in_ok-levels-in-Guarded t c =
     let is : read_code R c.args.code.now ≡ Guarded e.place e.number x =
     ap (read_code R) e.is ∙ read-Guarded R e.place e.number e.body
     ∙ ap (λ (a : Kept). Guarded e.place e.number (read_code R a)) (sym c.get-inner-in-Guarded.ensures) in
-    c.in_ok-levels-in-Guarded.ensures
+    c.in_ok-levels-in-Guarded.ensures.exact
     ∙ ap (λ n. after n (numbers_of c.in_ok-inside-in-Guarded.inside)) c.cost.ensures.cost
     ∙ entered-guarded I K S A c.as_slice-all.result.now e.place e.number x V (numbers_of c.in_ok-last-in-Guarded.last)
-    (numbers_of c.in_ok-inside-in-Guarded.inside) (c.as_slice-all.ensures.value ∙ c.in_ok-deeper-in-Guarded.ensures)
-    c.in_ok-last-in-Guarded.ensures c.in_ok-inside-in-Guarded.ensures
+    (numbers_of c.in_ok-inside-in-Guarded.inside) (c.as_slice-all.ensures.value ∙ c.in_ok-deeper-in-Guarded.ensures.exact)
+    c.in_ok-last-in-Guarded.ensures.exact c.in_ok-inside-in-Guarded.ensures.exact
     ∙ ap (λ (d : Code). entered I K S A d V) (sym is)
 
-pub returns-in_ok-levels-in-Resting : goal.returns-in_ok-levels-in-Resting
-returns-in_ok-levels-in-Resting t c =
+pub returns-in_ok-levels-in-Resting-clause-exact : goal.returns-in_ok-levels-in-Resting-clause-exact
+returns-in_ok-levels-in-Resting-clause-exact t c =
     let R = routines_in c.args.before.now in
     let I = c.args.image.now in
     let K = c.args.costs.now in
@@ -152,11 +154,11 @@ returns-in_ok-levels-in-Resting t c =
     let V = numbers_of c.args.behind.now in
     let e = c.in-Resting in
     let is : read_code R c.args.code.now ≡ Resting e.field-0 = ap (read_code R) e.is ∙ read-Resting R e.field-0 in
-    c.in_ok-levels-in-Resting.ensures ∙ pausing-is I K S A e.field-0 V
+    c.in_ok-levels-in-Resting.ensures.exact ∙ pausing-is I K S A e.field-0 V
     ∙ ap (λ (d : Code). entered I K S A d V) (sym is)
 
-pub returns-in_ok-levels-in-Forking : goal.returns-in_ok-levels-in-Forking
-returns-in_ok-levels-in-Forking t c =
+pub returns-in_ok-levels-in-Forking-clause-exact : goal.returns-in_ok-levels-in-Forking-clause-exact
+returns-in_ok-levels-in-Forking-clause-exact t c =
     let R = routines_in c.args.before.now in
     let I = c.args.image.now in
     let K = c.args.costs.now in
@@ -165,5 +167,246 @@ returns-in_ok-levels-in-Forking t c =
     let V = numbers_of c.args.behind.now in
     let e = c.in-Forking in
     let is : read_code R c.args.code.now ≡ Forking e.place e.low e.count = ap (read_code R) e.is ∙ read-Forking R e.place e.low e.count in
-    c.in_ok-levels-in-Forking.ensures ∙ forking-is-entered I K S A e.place e.low e.count V
+    c.in_ok-levels-in-Forking.ensures.exact ∙ forking-is-entered I K S A e.place e.low e.count V
     ∙ ap (λ (d : Code). entered I K S A d V) (sym is)
+
+pub returns-in_err-levels-in-Sequence-2-clause-fits : goal.returns-in_err-levels-in-Sequence-2-clause-fits
+returns-in_err-levels-in-Sequence-2-clause-fits t c = λ h.
+    let R = routines_in c.args.before.now in
+    let I = c.args.image.now in
+    let K = c.args.costs.now in
+    let S = pair_from c.args.first c.args.starts.now in
+    let A = c.args.aborts.now in
+    let V = numbers_of c.args.behind.now in
+    let e = c.in-Sequence in
+    let codes = c.as_slice-codes.result.now in
+    let is : read_code R c.args.code.now ≡ codes_from e.to (map (read_code R) codes) =
+    ap (read_code R) e.is ∙ read-Sequence R e.parts e.to
+    ∙ ap (λ (cs : List Kept). codes_from e.to (map (read_code R) cs)) (sym c.as_slice-codes.ensures) in
+    let part = c.index-codes-rest.result in
+    let some : 1 ≤ c.loop-rest.rest = omega arith in
+    let front = front codes c.loop-rest.rest part some c.loop-rest.invariant.within c.index-codes-rest.is in
+    let r = entry-read I K S A (read_code R c.args.code.now) _ V is h in
+    let p = err_from_is_err_and c.from_residual-in_err-levels-in-Sequence-2.result c.from_residual-in_err-levels-in-Sequence-2.ensures.1 in
+    rw (p.1, p.2) (c.in_err-levels-in-Sequence-2.ensures.fits
+    (entry-part I K S A (read_code R) e.to codes c.loop-rest.rest part V (numbers_of c.loop-rest.levels) front c.loop-rest.invariant.numbers r))
+
+pub returns-in_err-back-in-Either-clause-fits : goal.returns-in_err-back-in-Either-clause-fits
+returns-in_err-back-in-Either-clause-fits t c = λ h.
+    let R = routines_in c.args.before.now in
+    let I = c.args.image.now in
+    let K = c.args.costs.now in
+    let S = pair_from c.args.first c.args.starts.now in
+    let A = c.args.aborts.now in
+    let V = numbers_of c.args.behind.now in
+    let e = c.in-Either in
+    let x = read_code R c.get-near.result.now in
+    let y = read_code R c.get-far.result.now in
+    let is : read_code R c.args.code.now ≡ Either e.from e.count e.branch x y =
+    ap (read_code R) e.is ∙ read-Either R e.from e.count e.branch e.untaken e.taken
+    ∙ ap₂ (λ (a b : Kept). Either e.from e.count e.branch (read_code R a) (read_code R b)) (sym c.get-near.ensures) (sym c.get-far.ensures) in
+    let r = entry-read I K S A (read_code R c.args.code.now) _ V is h in
+    let p = err_from_is_err_and c.from_residual-in_err-back-in-Either.result c.from_residual-in_err-back-in-Either.ensures.1 in
+    rw (p.1, p.2) (c.in_err-back-in-Either.ensures.fits
+    r.0)
+
+pub returns-in_err-one-in-Either-clause-fits : goal.returns-in_err-one-in-Either-clause-fits
+returns-in_err-one-in-Either-clause-fits t c = λ h.
+    let R = routines_in c.args.before.now in
+    let I = c.args.image.now in
+    let K = c.args.costs.now in
+    let S = pair_from c.args.first c.args.starts.now in
+    let A = c.args.aborts.now in
+    let V = numbers_of c.args.behind.now in
+    let e = c.in-Either in
+    let x = read_code R c.get-near.result.now in
+    let y = read_code R c.get-far.result.now in
+    let is : read_code R c.args.code.now ≡ Either e.from e.count e.branch x y =
+    ap (read_code R) e.is ∙ read-Either R e.from e.count e.branch e.untaken e.taken
+    ∙ ap₂ (λ (a b : Kept). Either e.from e.count e.branch (read_code R a) (read_code R b)) (sym c.get-near.ensures) (sym c.get-far.ensures) in
+    let r = entry-read I K S A (read_code R c.args.code.now) _ V is h in
+    let p = err_from_is_err_and c.from_residual-in_err-one-in-Either.result c.from_residual-in_err-one-in-Either.ensures.1 in
+    rw (p.1, p.2) (c.in_err-one-in-Either.ensures.fits
+    (entry-behind I K S A x _ (numbers_of c.in_ok-back-in-Either.back) c.in_ok-back-in-Either.ensures.exact r.1))
+
+pub returns-in_err-other-in-Either-clause-fits : goal.returns-in_err-other-in-Either-clause-fits
+returns-in_err-other-in-Either-clause-fits t c = λ h.
+    let R = routines_in c.args.before.now in
+    let I = c.args.image.now in
+    let K = c.args.costs.now in
+    let S = pair_from c.args.first c.args.starts.now in
+    let A = c.args.aborts.now in
+    let V = numbers_of c.args.behind.now in
+    let e = c.in-Either in
+    let x = read_code R c.get-near.result.now in
+    let y = read_code R c.get-far.result.now in
+    let is : read_code R c.args.code.now ≡ Either e.from e.count e.branch x y =
+    ap (read_code R) e.is ∙ read-Either R e.from e.count e.branch e.untaken e.taken
+    ∙ ap₂ (λ (a b : Kept). Either e.from e.count e.branch (read_code R a) (read_code R b)) (sym c.get-near.ensures) (sym c.get-far.ensures) in
+    let r = entry-read I K S A (read_code R c.args.code.now) _ V is h in
+    let p = err_from_is_err_and c.from_residual-in_err-other-in-Either.result c.from_residual-in_err-other-in-Either.ensures.1 in
+    rw (p.1, p.2) (c.in_err-other-in-Either.ensures.fits
+    r.2)
+
+pub returns-in_err-levels-in-Either-clause-fits : goal.returns-in_err-levels-in-Either-clause-fits
+returns-in_err-levels-in-Either-clause-fits t c = λ h.
+    let R = routines_in c.args.before.now in
+    let I = c.args.image.now in
+    let K = c.args.costs.now in
+    let S = pair_from c.args.first c.args.starts.now in
+    let A = c.args.aborts.now in
+    let V = numbers_of c.args.behind.now in
+    let e = c.in-Either in
+    let x = read_code R c.get-near.result.now in
+    let y = read_code R c.get-far.result.now in
+    let is : read_code R c.args.code.now ≡ Either e.from e.count e.branch x y =
+    ap (read_code R) e.is ∙ read-Either R e.from e.count e.branch e.untaken e.taken
+    ∙ ap₂ (λ (a b : Kept). Either e.from e.count e.branch (read_code R a) (read_code R b)) (sym c.get-near.ensures) (sym c.get-far.ensures) in
+    let r = entry-read I K S A (read_code R c.args.code.now) _ V is h in
+    let p = err_from_is_err_and c.from_residual-in_err-levels-in-Either.result c.from_residual-in_err-levels-in-Either.ensures.1 in
+    rw (p.1, p.2) (c.in_err-levels-in-Either.ensures.fits
+    (test-room I K S (testing_cost I K e.from e.count e.branch) _ _ (numbers_of c.in_ok-one-in-Either.one) (numbers_of c.in_ok-other-in-Either.other)
+    (c.in_ok-one-in-Either.ensures.exact ∙ ap (entered I K S A x) c.in_ok-back-in-Either.ensures.exact) c.in_ok-other-in-Either.ensures.exact r.3))
+
+pub returns-in_err-one-in-Turns-clause-fits : goal.returns-in_err-one-in-Turns-clause-fits
+returns-in_err-one-in-Turns-clause-fits t c = λ h.
+    let R = routines_in c.args.before.now in
+    let I = c.args.image.now in
+    let K = c.args.costs.now in
+    let S = pair_from c.args.first c.args.starts.now in
+    let A = c.args.aborts.now in
+    let V = numbers_of c.args.behind.now in
+    let e = c.in-Turns in
+    let x = read_code R c.get-inner.result.now in
+    let is : read_code R c.args.code.now ≡ Turns e.from e.count e.branch x e.to =
+    ap (read_code R) e.is ∙ read-Turns R e.from e.count e.branch e.body e.to
+    ∙ ap (λ (a : Kept). Turns e.from e.count e.branch (read_code R a) e.to) (sym c.get-inner.ensures) in
+    let r = entry-read I K S A (read_code R c.args.code.now) _ V is h in
+    let p = err_from_is_err_and c.from_residual-in_err-one-in-Turns.result c.from_residual-in_err-one-in-Turns.ensures.1 in
+    rw (p.1, p.2) (c.in_err-one-in-Turns.ensures.fits
+    (entry-behind I K S A x _ (numbers_of c.nothing-none.result) c.nothing-none.ensures r.0))
+
+pub returns-in_err-levels-in-Turns-clause-fits : goal.returns-in_err-levels-in-Turns-clause-fits
+returns-in_err-levels-in-Turns-clause-fits t c = λ h.
+    let R = routines_in c.args.before.now in
+    let I = c.args.image.now in
+    let K = c.args.costs.now in
+    let S = pair_from c.args.first c.args.starts.now in
+    let A = c.args.aborts.now in
+    let V = numbers_of c.args.behind.now in
+    let e = c.in-Turns in
+    let x = read_code R c.get-inner.result.now in
+    let is : read_code R c.args.code.now ≡ Turns e.from e.count e.branch x e.to =
+    ap (read_code R) e.is ∙ read-Turns R e.from e.count e.branch e.body e.to
+    ∙ ap (λ (a : Kept). Turns e.from e.count e.branch (read_code R a) e.to) (sym c.get-inner.ensures) in
+    let r = entry-read I K S A (read_code R c.args.code.now) _ V is h in
+    let p = err_from_is_err_and c.from_residual-in_err-levels-in-Turns.result c.from_residual-in_err-levels-in-Turns.ensures.1 in
+    rw (p.1, p.2) (c.in_err-levels-in-Turns.ensures.fits
+    (test-room I K S (testing_cost I K e.from e.count e.branch) _ _ (numbers_of c.in_ok-one-in-Turns.one) V
+    (c.in_ok-one-in-Turns.ensures.exact ∙ ap (entered I K S A x) c.nothing-none.ensures) refl r.1))
+
+pub returns-in_err-levels-in-Forever-clause-fits : goal.returns-in_err-levels-in-Forever-clause-fits
+returns-in_err-levels-in-Forever-clause-fits t c = λ h.
+    let R = routines_in c.args.before.now in
+    let I = c.args.image.now in
+    let K = c.args.costs.now in
+    let S = pair_from c.args.first c.args.starts.now in
+    let A = c.args.aborts.now in
+    let V = numbers_of c.args.behind.now in
+    let e = c.in-Forever in
+    let x = read_code R c.get-inner-in-Forever.result.now in
+    let is : read_code R c.args.code.now ≡ Forever x e.to =
+    ap (read_code R) e.is ∙ read-Forever R e.body e.to ∙ ap (λ (a : Kept). Forever (read_code R a) e.to) (sym c.get-inner-in-Forever.ensures) in
+    let r = entry-read I K S A (read_code R c.args.code.now) _ V is h in
+    let p = err_from_is_err_and c.from_residual-in_err-levels-in-Forever.result c.from_residual-in_err-levels-in-Forever.ensures.1 in
+    rw (p.1, p.2) (c.in_err-levels-in-Forever.ensures.fits
+    (entry-behind I K S A x _ (numbers_of c.nothing-none-in-Forever.result) c.nothing-none-in-Forever.ensures r))
+
+pub returns-in_err-levels-in-Resting-clause-fits : goal.returns-in_err-levels-in-Resting-clause-fits
+returns-in_err-levels-in-Resting-clause-fits t c = λ h.
+    let R = routines_in c.args.before.now in
+    let I = c.args.image.now in
+    let K = c.args.costs.now in
+    let S = pair_from c.args.first c.args.starts.now in
+    let A = c.args.aborts.now in
+    let V = numbers_of c.args.behind.now in
+    let e = c.in-Resting in
+    let is : read_code R c.args.code.now ≡ Resting e.field-0 = ap (read_code R) e.is ∙ read-Resting R e.field-0 in
+    let r = entry-read I K S A (read_code R c.args.code.now) _ V is h in
+    let p = err_from_is_err_and c.from_residual-in_err-levels-in-Resting.result c.from_residual-in_err-levels-in-Resting.ensures.1 in
+    rw (p.1, p.2) (c.in_err-levels-in-Resting.ensures.fits
+    (numbers-small I K S _ _ (pausing-is I K S A e.field-0 V) r))
+
+pub returns-in_err-levels-in-Forking-clause-fits : goal.returns-in_err-levels-in-Forking-clause-fits
+returns-in_err-levels-in-Forking-clause-fits t c = λ h.
+    let R = routines_in c.args.before.now in
+    let I = c.args.image.now in
+    let K = c.args.costs.now in
+    let S = pair_from c.args.first c.args.starts.now in
+    let A = c.args.aborts.now in
+    let V = numbers_of c.args.behind.now in
+    let e = c.in-Forking in
+    let is : read_code R c.args.code.now ≡ Forking e.place e.low e.count = ap (read_code R) e.is ∙ read-Forking R e.place e.low e.count in
+    let r = entry-read I K S A (read_code R c.args.code.now) _ V is h in
+    let p = err_from_is_err_and c.from_residual-in_err-levels-in-Forking.result c.from_residual-in_err-levels-in-Forking.ensures.1 in
+    rw (p.1, p.2) (c.in_err-levels-in-Forking.ensures.fits
+    r.0 (numbers-small I K S _ _ (forking-is-entered I K S A e.place e.low e.count V) r.1))
+
+pub returns-in_err-last-in-Guarded-clause-fits : goal.returns-in_err-last-in-Guarded-clause-fits
+returns-in_err-last-in-Guarded-clause-fits t c = λ h.
+    let R = routines_in c.args.before.now in
+    let I = c.args.image.now in
+    let K = c.args.costs.now in
+    let S = pair_from c.args.first c.args.starts.now in
+    let A = c.args.aborts.now in
+    let V = numbers_of c.args.behind.now in
+    let e = c.in-Guarded in
+    let x = read_code R c.get-inner-in-Guarded.result.now in
+    let is : read_code R c.args.code.now ≡ Guarded e.place e.number x =
+    ap (read_code R) e.is ∙ read-Guarded R e.place e.number e.body
+    ∙ ap (λ (a : Kept). Guarded e.place e.number (read_code R a)) (sym c.get-inner-in-Guarded.ensures) in
+    let r = entry-read I K S A (read_code R c.args.code.now) _ V is h in
+    let p = err_from_is_err_and c.from_residual-in_err-last-in-Guarded.result c.from_residual-in_err-last-in-Guarded.ensures.1 in
+    rw (p.1, p.2) (c.in_err-last-in-Guarded.ensures.fits
+    r.0)
+
+pub returns-in_err-inside-in-Guarded-clause-fits : goal.returns-in_err-inside-in-Guarded-clause-fits
+returns-in_err-inside-in-Guarded-clause-fits t c = λ h.
+    let R = routines_in c.args.before.now in
+    let I = c.args.image.now in
+    let K = c.args.costs.now in
+    let S = pair_from c.args.first c.args.starts.now in
+    let A = c.args.aborts.now in
+    let V = numbers_of c.args.behind.now in
+    let e = c.in-Guarded in
+    let x = read_code R c.get-inner-in-Guarded.result.now in
+    let is : read_code R c.args.code.now ≡ Guarded e.place e.number x =
+    ap (read_code R) e.is ∙ read-Guarded R e.place e.number e.body
+    ∙ ap (λ (a : Kept). Guarded e.place e.number (read_code R a)) (sym c.get-inner-in-Guarded.ensures) in
+    let r = entry-read I K S A (read_code R c.args.code.now) _ V is h in
+    let p = err_from_is_err_and c.from_residual-in_err-inside-in-Guarded.result c.from_residual-in_err-inside-in-Guarded.ensures.1 in
+    rw (p.1, p.2) (c.in_err-inside-in-Guarded.ensures.fits
+    (entry-inside I K S _ c.as_slice-all.result.now x _ (numbers_of c.in_ok-last-in-Guarded.last)
+    (c.as_slice-all.ensures.value ∙ c.in_ok-deeper-in-Guarded.ensures.exact) c.in_ok-last-in-Guarded.ensures.exact r.1))
+
+pub returns-in_err-levels-in-Guarded-clause-fits : goal.returns-in_err-levels-in-Guarded-clause-fits
+returns-in_err-levels-in-Guarded-clause-fits t c = λ h.
+    let R = routines_in c.args.before.now in
+    let I = c.args.image.now in
+    let K = c.args.costs.now in
+    let S = pair_from c.args.first c.args.starts.now in
+    let A = c.args.aborts.now in
+    let V = numbers_of c.args.behind.now in
+    let e = c.in-Guarded in
+    let x = read_code R c.get-inner-in-Guarded.result.now in
+    let is : read_code R c.args.code.now ≡ Guarded e.place e.number x =
+    ap (read_code R) e.is ∙ read-Guarded R e.place e.number e.body
+    ∙ ap (λ (a : Kept). Guarded e.place e.number (read_code R a)) (sym c.get-inner-in-Guarded.ensures) in
+    let r = entry-read I K S A (read_code R c.args.code.now) _ V is h in
+    let p = err_from_is_err_and c.from_residual-in_err-levels-in-Guarded.result c.from_residual-in_err-levels-in-Guarded.ensures.1 in
+    rw (p.1, p.2) (c.in_err-levels-in-Guarded.ensures.fits
+    (numbers-small I K S _ _
+    (ap (λ n. after n (numbers_of c.in_ok-inside-in-Guarded.inside)) c.cost.ensures.cost
+    ∙ entered-guarded I K S A c.as_slice-all.result.now e.place e.number x V (numbers_of c.in_ok-last-in-Guarded.last)
+    (numbers_of c.in_ok-inside-in-Guarded.inside) (c.as_slice-all.ensures.value ∙ c.in_ok-deeper-in-Guarded.ensures.exact)
+    c.in_ok-last-in-Guarded.ensures.exact c.in_ok-inside-in-Guarded.ensures.exact) r.2))

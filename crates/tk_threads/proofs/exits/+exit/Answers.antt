@@ -5,8 +5,8 @@ use Rattle.tk_paths.proofs.Readings.{read-Sequence, codes-end}
 use Rattle.tk_numbers.specs.Charges.{routines_in}
 use Rattle.tk_threads.proofs.exits.+exit.Goals as goal
 
-pub returns-in-Sequence : goal.returns-in-Sequence
-returns-in-Sequence t c =
+pub returns-in-Sequence-clause-exact : goal.returns-in-Sequence-clause-exact
+returns-in-Sequence-clause-exact t c =
     let R = routines_in c.args.before.now in
     let e = c.in-Sequence in
     sym (codes-end e.to (map (read_code R) e.parts)) ∙ ap exit (sym (ap (read_code R) e.is ∙ read-Sequence R e.parts e.to))

@@ -1,4 +1,4 @@
-use Rattle.std.proofs.Common.{◌≡◌, ◌≤◌, ◌-◌, length, refl, arith}
+use Rattle.std.proofs.Common.{◌≡◌, ◌≤◌, ◌-◌, refl, arith}
 use Rattle.tk_paths.specs.declared.view.Side.TheVariants.{ToPause, ToEnd}
 use Rattle.tk_threads.proofs.RestLaws.{handled-start, handled-more}
 use Rattle.tk_threads.proofs.rests.handled.Goals as goal

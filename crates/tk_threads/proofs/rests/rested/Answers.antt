@@ -17,8 +17,8 @@ loop-k-preserved c =
     (rested-pair c.args.image.now c.args.costs.now c.args.aborts.now c.loop-k.k c.handled-pair.result c.greater.result c.handled-pair.ensures.pause c.handled-pair.ensures.end c.greater.ensures)
     ∙ sym (one-more V c.loop-k.k)
 
-pub returns : goal.returns
-returns c =
+pub returns-clause-exact : goal.returns-clause-exact
+returns-clause-exact c =
     let V = rested c.args.image.now c.args.costs.now c.args.aborts.now in
     let end : c.loop-k.k ≡ length c.args.aborts.now + 1 = omega arith in
     rested-told c.args.image.now c.args.costs.now c.args.aborts.now _ (c.of.ensures ∙ c.loop-k.invariant ∙ ap (levels_to V) end) refl
